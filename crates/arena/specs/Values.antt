@@ -62,16 +62,16 @@ unfoldable mutual
   codef (fcons k v fs) = fork (leaf k) (fork (code v) (codef fs))
 
 -- the first decides, unless it is equal
-abbrev pub first : Ordering → Ordering → Ordering
-first Ordering·lt r = Ordering·lt
-first Ordering·eq r = r
-first Ordering·gt r = Ordering·gt
+abbrev pub thenBy : Ordering → Ordering → Ordering
+thenBy Ordering·lt r = Ordering·lt
+thenBy Ordering·eq r = r
+thenBy Ordering·gt r = Ordering·gt
 
 unfoldable pub compareT : Tree → Tree → Ordering
 compareT (leaf m) (leaf n) = compare m n
 compareT (leaf m) (fork x y) = Ordering·lt
 compareT (fork x y) (leaf n) = Ordering·gt
-compareT (fork x y) (fork z w) = first (compareT x z) (compareT y w)
+compareT (fork x y) (fork z w) = thenBy (compareT x z) (compareT y w)
 
 unfoldable pub compareV : Value → Value → Ordering
 compareV v w = compareT (code v) (code w)
