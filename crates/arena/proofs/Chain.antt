@@ -175,9 +175,9 @@ meanNode-ext I {o} {a} n c e h g =
     let pt = placed-term o n h g in
     let t : tyOf o (n .type) ≡ tyOf a (n .type) = sym (ty-ext e (n .type) (type-below o (n .type) (pt .0))) in
     let ts : map (tyAt o) (args n) ≡ map (tyAt a) (args n) =
-        map-agree (isTerm o) (tyAt o) (tyAt a) (λ x k. sym (tyAt-ext c e x k)) (args n) (pt .1) in
+    map-agree (isTerm o) (tyAt o) (tyAt a) (λ x k. sym (tyAt-ext c e x k)) (args n) (pt .1) in
     let vs : map (meaning I o) (args n) ≡ map (meaning I a) (args n) =
-        map-agree (isTerm o) (meaning I o) (meaning I a) (λ x k. sym (meaning-ext I e x (term-below o x k))) (args n) (pt .1) in
+    map-agree (isTerm o) (meaning I o) (meaning I a) (λ x k. sym (meaning-ext I e x (term-below o x k))) (args n) (pt .1) in
     rw (t, ts, vs) refl
 
 pub mean-at : (I : Interp) {a : Nodes} → Chain a → (p : ℕ) → isTerm a p ≡ true → meaning I a p ≡ meanNode I a (meaning I a) (nodeAt a p)

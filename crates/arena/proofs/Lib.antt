@@ -11,3 +11,7 @@ pub mod Whole
 pub mod Order
 pub mod Sets
 pub mod SetOps
+pub mod Fits
+pub mod Sound
+pub mod Flat
+pub mod Formed

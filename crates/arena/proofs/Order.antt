@@ -7,7 +7,6 @@ use mathlib.Core.Logic.{_⊎_, inl, inr}
 use lib.Dec.{eqb, isLe}
 use borrow.Author.Tests.{eqb-true, eqb-false, leb-true, leb-false}
 use Rattle.arena.specs.Values.{Value, bool, bits, vnone, vsome, vset, vrec, Values, vnil, vcons, VFields, fnil, fcons, Tree, leaf, fork, code, codes, codef, thenBy, compareT, isEq}
-
 use lib.Dec
 
 -- ---- the value of a tree
@@ -18,6 +17,7 @@ leafOf (fork x y) = 0
 
 mutual
   unfolding leafOf
+
   decode : Tree → Value
   decode (leaf n) = vnone
   decode (fork (fork x z) y) = vnone
@@ -40,6 +40,7 @@ mutual
 
 mutual
   unfolding code decode leafOf
+
   decode-code : (v : Value) → decode (code v) ≡ v
   decode-code (bool true) = refl
   decode-code (bool false) = refl
@@ -65,8 +66,10 @@ code-inj v w e = sym (decode-code v) ∙ ap decode e ∙ decode-code w
 -- two constructors are never equal
 lt≢eq : {X : Type 0} → Ordering·lt ≡ Ordering·eq → X
 lt≢eq e = let z : _≡_ {A = ℕ} 0 1 = cc in absurd (omega arith)
+
 lt≢gt : {X : Type 0} → Ordering·lt ≡ Ordering·gt → X
 lt≢gt e = let z : _≡_ {A = ℕ} 0 1 = cc in absurd (omega arith)
+
 eq≢gt : {X : Type 0} → Ordering·eq ≡ Ordering·gt → X
 eq≢gt e = let z : _≡_ {A = ℕ} 0 1 = cc in absurd (omega arith)
 
@@ -153,6 +156,7 @@ tree-trans (fork a b) (fork x y) (fork u v) e f =
   where
     Either : Tree → Tree → Tree → Tree → Type 0
     Either x z y w = (compareT x z ≡ Ordering·lt) ⊎ ((compareT x z ≡ Ordering·eq) × (compareT y w ≡ Ordering·lt))
+
     go : (compareT a x ≡ Ordering·lt → compareT x u ≡ Ordering·lt → compareT a u ≡ Ordering·lt) → (compareT b y ≡ Ordering·lt → compareT y v ≡ Ordering·lt → compareT b v ≡ Ordering·lt)
         → Either a x b y → Either x u y v → thenBy (compareT a u) (compareT b v) ≡ Ordering·lt
     go f g (inl h) (inl k) = rw (f h k)

@@ -69,6 +69,7 @@ unique (link {a = a} {n = n} c g f) p q h e = go (λ h e. unique c p q h e) (eqb
     no p q h e i j =
         let x : nodeAt a q ≡ n = sym (node-old n a q j) ∙ sym e ∙ node-new n a p i in
         find-complete a q (subst (λ (m : Node). 1 ≤ m .kind) (sym x) (subst (λ (m : Node). 1 ≤ m .kind) (node-new n a p i) h)) (subst (λ (m : Node). find a m ≡ none) (sym x) f)
+
     go : (1 ≤ kindAt a p → nodeAt a p ≡ nodeAt a q → p ≡ q)
         → (b : Bool) → eqb p (mark a) ≡ b → (d : Bool) → eqb q (mark a) ≡ d → p ≡ q
     go ih true i true j = eqb-true p (mark a) i ∙ sym (eqb-true q (mark a) j)
@@ -85,6 +86,7 @@ find-at {a} c n p h e = go (find a n) refl
   where
     pos : 1 ≤ kindAt a p
     pos = subst (λ (m : Node). 1 ≤ m .kind) (sym e) h
+
     go : (f : Option ℕ) → find a n ≡ f → find a n ≡ some p
     go none z = absurd (find-complete a p pos (ap (find a) e ∙ z))
     go (some r) z = z ∙ ap some (sym (unique c p r pos (e ∙ sym (find-sound a n r z .1))))

@@ -29,6 +29,7 @@ inter-mem u (vcons v r) t = go (memV v t) refl (inter-mem u r t)
   where
     same : (b : Bool) → memV v t ≡ b → eqV u v ≡ true → memV u t ≡ b
     same b q e = ap (λ (z : Value). memV z t) (eqV-eq u v e) ∙ q
+
     go : (b : Bool) → memV v t ≡ b → memV u (interV r t) ≡ (memV u r && memV u t) → memV u (cond b (vcons v (interV r t)) (interV r t)) ≡ ((eqV u v || memV u r) && memV u t)
     go true q ih = ap (λ (x : Bool). eqV u v || x) ih ∙ pick (eqV u v) (memV u r) (memV u t) (same true q)
     go false q ih = ih ∙ drop-one (eqV u v) (memV u r) (memV u t) (same false q)

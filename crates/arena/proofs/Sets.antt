@@ -157,8 +157,10 @@ set-ext (vcons v r) (vcons w q) e f h =
     out : (v w : Value) (q : Values) → ltV v w ≡ true → risingV (vcons w q) ≡ true → memV v (vcons w q) ≡ false
     out v w q l f = above-out v (vcons w q)
         (allV-and (λ u. ltV v u) w q l (allV-imp (λ u. ltV w u) (λ u. ltV v u) (λ u p. ltV-trans v w u l p) q (rising-above w q f)))
+
     here : (v : Value) (r : Values) → memV v (vcons v r) ≡ true
     here v r = rw (eqV-refl v)
+
     tails : v ≡ w → (u : Value) → memV u r ≡ memV u q
     tails p u = pick (eqV u v) refl
       where
@@ -170,6 +172,7 @@ set-ext (vcons v r) (vcons w q) e f h =
             let k : (eqV u v || memV u r) ≡ (eqV u w || memV u q) = h u in
             let k' : (eqV u v || memV u r) ≡ (eqV u v || memV u q) = k ∙ ap (λ (z : Value). eqV u z || memV u q) (sym p) in
             rw g at k'
+
     go : (o : Ordering) → Tri v w o → (((u : Value) → memV u r ≡ memV u q) → r ≡ q) → vcons v r ≡ vcons w q
     go Ordering·lt (tri-lt l) ih = t≢f (sym (here v r) ∙ h v ∙ out v w q l f)
     go Ordering·eq (tri-eq p) ih = ap₂ vcons p (ih (tails p))
