@@ -26,3 +26,4 @@ pub mod Known
 pub mod Built
 pub mod TypeCanon
 pub mod LitSets
+pub mod Examples
