@@ -27,3 +27,5 @@ pub mod Built
 pub mod TypeCanon
 pub mod LitSets
 pub mod Examples
+pub mod Steps
+pub mod Stretch
