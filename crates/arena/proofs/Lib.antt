@@ -31,3 +31,4 @@ pub mod Steps
 pub mod Stretch
 pub mod Starts
 pub mod LentCells
+pub mod Insertion

@@ -6,5 +6,6 @@ pub mod Walks
 pub mod WellFormed
 pub mod Values
 pub mod Meaning
+pub mod Runs
 pub mod Lent
 pub mod Did

@@ -1,12 +1,9 @@
 -- `arena::cells::clear_back` meets its contract. Assumes nothing.
 use mathlib.Core.List.{_++_, append-nil}
-use mathlib.Core.List.{_++_}
 use mathlib.Core.Path.{_≡_, refl, sym, ap, _∙_}
-use mathlib.Core.Path.{_≡_, refl}
 use Prim.Native.Nat.{ℕ, _-_, _≤_}
 use native.Mathlib.Omega.{arith}
 use lib.ListN.{length, take, replicate, length-set}
-use lib.ListN.{length, take, replicate}
 use Rattle.arena.proofs.LentCells.{clear-more, clear-all}
 use Rattle.arena.proofs.cells.clear_back.Statement.{statement}
 use Rattle.arena.proofs.cells.clear_back.Tie as tie
