@@ -30,5 +30,5 @@ pub mod Examples
 pub mod Steps
 pub mod Stretch
 pub mod Starts
-pub mod LentCells
+pub mod FreshCells
 pub mod Insertion

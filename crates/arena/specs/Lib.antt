@@ -7,5 +7,5 @@ pub mod WellFormed
 pub mod Values
 pub mod Meaning
 pub mod Runs
-pub mod Lent
+pub mod Fresh
 pub mod Did

@@ -4,7 +4,7 @@ use mathlib.Core.Path.{_≡_, refl, sym, ap, _∙_}
 use Prim.Native.Nat.{ℕ, _-_, _≤_}
 use native.Mathlib.Omega.{arith}
 use lib.ListN.{length, take, replicate, length-set}
-use Rattle.arena.proofs.LentCells.{clear-more, clear-all}
+use Rattle.arena.proofs.FreshCells.{clear-more, clear-all}
 use Rattle.arena.proofs.cells.clear_back.Statement.{statement}
 use Rattle.arena.proofs.cells.clear_back.Tie as tie
 
