@@ -15,13 +15,13 @@ use Rattle.arena.specs.Values.{Value, bool, bits, vnone, vsome, vset, vr
 use Rattle.arena.specs.Meaning.{Interp, makerMeans, term, meanNode, meaning}
 use Rattle.arena.proofs.Bools.{t≢f, every-all, branch, from}
 use Rattle.arena.proofs.Runs.{mem0, mem1, mem-here, mem-there, all-mem, any-find, mem-any, same-list}
+use Rattle.arena.proofs.Rising.{In, rise-ext}
 use Rattle.arena.proofs.Ext.{node-kind}
 use Rattle.arena.proofs.Chain.{WF, term-kind, placed-term, args-below, mean-kind, lit-at}
 use Rattle.arena.proofs.Put.{unique}
 use Rattle.arena.proofs.Whole.{good-kind, maker-test}
 use Rattle.arena.proofs.Sets.{eqV-eq, eqV-refl}
 use Rattle.arena.proofs.SetOps.{set-mem}
-use Rattle.arena.proofs.Rising.{In, rise-ext}
 
 -- the kind of literal that means a value
 unfoldable pub valKind : Value → ℕ

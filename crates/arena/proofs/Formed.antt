@@ -18,6 +18,8 @@ use Rattle.arena.proofs.Bools.{t≢f, or-right, or-cases, both-ways, ev
 use Rattle.arena.proofs.Ext.{Ext, ext-same, ext-more, mark-fresh, mark-ext}
 use Rattle.arena.proofs.Chain.{Chain, nil, link, WF, link-is}
 use Rattle.arena.proofs.Put.{same-node}
+use Rattle.arena.proofs.Known.{B}
+use Rattle.arena.proofs.Built.{reads}
 use Rattle.arena.proofs.Flat.{length-cells, cells-parse}
 
 -- ---- an arena

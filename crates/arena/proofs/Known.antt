@@ -19,8 +19,8 @@ use Rattle.arena.proofs.Bools.{and-l, every-all}
 use Rattle.arena.proofs.Runs.{mem1, mem3, all-get, same-list}
 use Rattle.arena.proofs.Chain.{WF, placed-term, mean-at, lit-at}
 use Rattle.arena.proofs.View.{Tm}
-use Rattle.arena.proofs.Types.{ty-bv, ty-opt, ty-rec}
 use Rattle.arena.proofs.Base.{false-tm, true-tm, false-means, true-means, false-lit, true-lit}
+use Rattle.arena.proofs.Types.{ty-bv, ty-opt, ty-rec}
 use Rattle.arena.proofs.Whole.{good-kind, maker-test, core-test, bv-test, operand}
 use Rattle.arena.proofs.Fits.{zero-fits, opt-fits, rec-fits}
 use Rattle.arena.proofs.Sound.{fit-tm, bool-at, bits-at, set-at}

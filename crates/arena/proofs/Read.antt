@@ -18,6 +18,7 @@ use Rattle.arena.proofs.Runs.{odds-length, odds-at}
 use Rattle.arena.proofs.Ext.{mark-nil, mark-cons, mark-ext, node-new, node-old, node-far, node-eq}
 use Rattle.arena.proofs.Chain.{Chain, nil, link, no-node, place}
 use Rattle.arena.proofs.View.{good-pos}
+use Rattle.arena.proofs.Known.{B}
 use Rattle.arena.proofs.Flat.{cell-at}
 use Rattle.arena.proofs.Formed.{wf, cells-are, mark-is}
 

@@ -13,6 +13,8 @@ use Rattle.arena.specs.WellFormed.{goodNode, absent, Below}
 use Rattle.arena.proofs.Ext.{Ext, ext-same, ext-more, mark-fresh, mark-more, mark-ext, node-new, node-ext}
 use Rattle.arena.proofs.Chain.{Chain, link, chain-older, link-is}
 use Rattle.arena.proofs.View.{good-pos}
+use Rattle.arena.proofs.Known.{B}
+use Rattle.arena.proofs.Built.{reads}
 use Rattle.arena.proofs.Flat.{length-cells, parse-on, parse-cells, parse-ext, ext-cells}
 use Rattle.arena.proofs.Formed.{absent-none, none-absent, fresh-wf, used-is, wf, cells-are, mark-is, below-of}
 use Rattle.arena.proofs.Read.{after-end, here-at}

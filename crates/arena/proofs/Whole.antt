@@ -17,8 +17,8 @@ use Rattle.arena.proofs.Runs.{all-at, all0, all1, all2, all3, all-get, 
 use Rattle.arena.proofs.Ext.{Ext, ext-older, node-ext, kind-known, node-kind, hasSet-ext}
 use Rattle.arena.proofs.Chain.{Chain, WF, place, kind-type, type-below, term-below, type-ext, term-ext, placed-term, placed-type}
 use Rattle.arena.proofs.View.{Tm, Is, is-bool, is-bv, is-opt, is-set, is-rec, is-blit, is-lit, is-none, is-some, is-sett, is-recd, is-var, is-not, is-and, is-or, is-eq, is-ite, is-uf, is-neg, is-bvn, is-nego, is-bvt, is-zext, is-mem, is-sub, is-int, is-get, is-fld, args-plain, view, tested}
-use Rattle.arena.proofs.Types.{one-mem}
 use Rattle.arena.proofs.Base.{tm-ext, bool-type, tm-type}
+use Rattle.arena.proofs.Types.{one-mem}
 
 module _ {o a : Nodes} (e : Ext o a) where
   at-ext : (t k : ℕ) → kindAt o t ≡ k → 1 ≤ k → nodeAt a t ≡ nodeAt o t
