@@ -6,18 +6,18 @@ use mathlib.Core.Bool.{Bool, true, false}
 use mathlib.Core.List.{List, [], _∷_, map}
 use lib.ListN.{length, getD}
 use lib.Dec.{eqb, leb, ltb}
-use borrow.Author.Tests.{eqb-true, eqb-false, leb-true, le-leb, lt-leb, ltb-true}
+use borrow.Author.Tests.{eqb-true, eqb-false, leb-true, leb-false, le-leb, lt-leb, ltb-true}
 use Rattle.arena.specs.Lists.{all, mem?, evens, odds}
 use Rattle.arena.specs.Nodes.{Node, node, Nodes, nodeAt, kindAt, typeAt, parAt, memAt, argAt, args, keys, fieldTypes}
-use Rattle.arena.specs.Walks.{litNode, isLit}
+use Rattle.arena.specs.Walks.{ruled, litRule, isLit}
 use Rattle.arena.specs.WellFormed.{fieldRun, isTerm, makerTest}
 use Rattle.arena.specs.Values.{Value, bool, bits, vnone, vsome, vset, vrec, eqV, setV, memV, recV}
 use Rattle.arena.specs.Meaning.{Interp, makerMeans, term, meanNode, meaning}
-use Rattle.arena.proofs.Bools.{t≢f, every-all, branch, from}
+use Rattle.arena.proofs.Bools.{t≢f, every-all, from}
 use Rattle.arena.proofs.Runs.{mem0, mem1, mem-here, mem-there, all-mem, any-find, mem-any, same-list}
 use Rattle.arena.proofs.Rising.{In, rise-ext}
 use Rattle.arena.proofs.Ext.{node-kind}
-use Rattle.arena.proofs.Chain.{WF, term-kind, placed-term, args-below, mean-kind, lit-at}
+use Rattle.arena.proofs.Chain.{WF, term-kind, term-pos, placed-term, args-below, mean-kind, lit-at}
 use Rattle.arena.proofs.Put.{unique}
 use Rattle.arena.proofs.Whole.{good-kind, maker-test}
 use Rattle.arena.proofs.Sets.{eqV-eq, eqV-refl}
@@ -52,24 +52,30 @@ module _ (I : Interp) {a : Nodes} (w : WF a) where
   N k p = node k (typeAt a p) (parAt a p) (memAt a p)
 
   pub lit-kind : (p : ℕ) → Lit p → kindAt a p ≤ 21
-  unfolding litNode
-  lit-kind p l =
-      let e : litNode a (isLit a) (nodeAt a p) ≡ true = sym (lit-at (w .chain) p (l .isterm)) ∙ l .islit in
-      branch (leb (kindAt a p) 18) _ _ e (λ q h. let z = leb-true (kindAt a p) 18 q in omega arith)
-      (λ q h. branch (leb (kindAt a p) 21) _ false h (λ r g. leb-true (kindAt a p) 21 r) (λ r g. t≢f (sym g)))
+  unfolding ruled litRule
+  lit-kind p l = go (leb (kindAt a p) 21) refl
+    where
+      e : ruled litRule a (isLit a) (nodeAt a p) ≡ true
+      e = sym (lit-at (w .chain) p (l .isterm)) ∙ l .islit
+
+      go : (b : Bool) → leb (kindAt a p) 21 ≡ b → kindAt a p ≤ 21
+      go true q = leb-true (kindAt a p) 21 q
+      go false q =
+          let h = leb-false (kindAt a p) 21 q in
+          t≢f (sym e ∙ rw (lt-leb (kindAt a p) 18 (omega arith), q))
 
   lit-args : (p k : ℕ) → kindAt a p ≡ k → 19 ≤ k → Lit p → all (isLit a) (args (N k p)) ≡ true
-  unfolding litNode
+  unfolding ruled litRule
   lit-args p k e h l =
       let j = lit-kind p l in
-      let f : litNode a (isLit a) (N k p) ≡ true = sym (lit-at (w .chain) p (l .isterm) ∙ ap (λ (n : Node). litNode a (isLit a) n) (node-kind a p k e)) ∙ l .islit in
-      rw (lt-leb k 18 (omega arith), le-leb k 21 (omega arith), litNode) at f
+      let f : ruled litRule a (isLit a) (N k p) ≡ true = sym (lit-at (w .chain) p (l .isterm) ∙ ap (λ (n : Node). ruled litRule a (isLit a) n) (node-kind a p k e)) ∙ l .islit in
+      rw (lt-leb k 18 (omega arith), le-leb k 21 (omega arith), ruled) at f
 
   term-args : (p k : ℕ) → kindAt a p ≡ k → 16 ≤ k → all (isTerm a) (args (N k p)) ≡ true
   term-args p k e h = placed-term a (N k p) h (good-kind w p k e (omega arith)) .1
 
   low-args : (p k : ℕ) → kindAt a p ≡ k → isTerm a p ≡ true → all (λ x. ltb x p) (args (N k p)) ≡ true
-  low-args p k e t = subst (λ (n : Node). all (λ x. ltb x p) (args n) ≡ true) (node-kind a p k e) (args-below (w .chain) p t)
+  low-args p k e t = subst (λ (n : Node). all (λ x. ltb x p) (args n) ≡ true) (node-kind a p k e) (args-below (w .chain) p (term-pos a p t))
 
   pub value-kind : (p : ℕ) → Lit p → valKind (M p) ≡ kindAt a p
   unfolding valKind meanNode term makerMeans args keys

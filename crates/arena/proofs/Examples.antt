@@ -14,7 +14,7 @@ use Rattle.bitvec.specs.Numbered.{bvappOf, bvcmpOf, bvsoOf}
 use Rattle.arena.specs.Lists.{every, all, any, sameList, evens, odds, field, holdsField, rising}
 use Rattle.arena.specs.Nodes.{Node, node, Nodes, mark, over, nodeAt, args, keys, fieldTypes, same, find, fresh}
 use Rattle.arena.specs.Cells.{cells, padded, parseOn, parse, used}
-use Rattle.arena.specs.Walks.{setNode, hasSet}
+use Rattle.arena.specs.Walks.{ruled, walked, freeRule}
 use Rattle.arena.specs.WellFormed.{fieldRun, placed, typeTest, makerTest, coreTest, bvTest, dataTest, kindTest, goodNode, isFresh, startsFresh, goodNodes, absent, distinct, wellFormed, filled, clear, formed}
 use Rattle.arena.specs.Values.{Value, bool, bits, vnone, vsome, vset, vrec, vnil, vcons, fnil, fcons, code, compareT, compareV, eqV, ltV, risingV, insertV, setV, memV, subsetV, interV, recV, fieldV, asBool, asBits, asSet, asRec, getOr, allV, fits, zeroOf}
 use Rattle.arena.specs.Meaning.{recTy, mkTy, tyNode, tyOf, width, Interp, noneGet, makerMeans, coreMeans, bvMeans, dataMeans, term, meanNode, meaning}
@@ -203,11 +203,11 @@ hold [] = true
 hold (r ∷ rs) = every (holds r ∷ hold rs ∷ [])
 
 rows-hold : hold rows ≡ true
-unfolding every all any sameList evens odds field holdsField rising mark over nodeAt args fieldTypes same find cells parseOn parse used setNode hasSet fieldRun placed typeTest makerTest coreTest bvTest dataTest kindTest goodNode isFresh startsFresh goodNodes absent distinct wellFormed filled clear formed build base two full start whole fields rows follows holds hold
+unfolding every all any sameList evens odds field holdsField rising mark over nodeAt args fieldTypes same find cells parseOn parse used ruled walked freeRule fieldRun placed typeTest makerTest coreTest bvTest dataTest kindTest goodNode isFresh startsFresh goodNodes absent distinct wellFormed filled clear formed build base two full start whole fields rows follows holds hold
 rows-hold = refl
 
 base-holds : wellFormed base ≡ true
-unfolding every all any sameList evens odds field holdsField rising mark over nodeAt args fieldTypes same find cells parseOn parse used setNode hasSet fieldRun placed typeTest makerTest coreTest bvTest dataTest kindTest goodNode isFresh startsFresh goodNodes absent distinct wellFormed filled clear formed build base two full start whole fields rows follows holds hold
+unfolding every all any sameList evens odds field holdsField rising mark over nodeAt args fieldTypes same find cells parseOn parse used ruled walked freeRule fieldRun placed typeTest makerTest coreTest bvTest dataTest kindTest goodNode isFresh startsFresh goodNodes absent distinct wellFormed filled clear formed build base two full start whole fields rows follows holds hold
 base-holds = refl
 
 -- 400 cells that end with the node

@@ -10,7 +10,7 @@ use lib.Dec.{eqb, leb}
 use borrow.Author.Tests.{eqb-true, eqb-false, leb-true, leb-false}
 use Rattle.arena.specs.Nodes.{Node, node, Nodes, mark, kindAt, T, fresh}
 use Rattle.arena.specs.Cells.{used, nodeHere, after}
-use Rattle.arena.specs.WellFormed.{goodNode, Below}
+use Rattle.arena.specs.WellFormed.{fewest, goodNode, Below}
 use Rattle.arena.specs.Lent.{Starts, Sure}
 use Rattle.arena.proofs.Ext.{mark-nil, mark-cons, mark-more, node-new, node-old, kind-known}
 use Rattle.arena.proofs.Chain.{no-node}
@@ -73,7 +73,7 @@ starts-more {a} {f} n S k l = record {
         subst (λ (m : Node). 1 ≤ m .kind) (sym (node-old n a p (λ z. omega arith))) o
 
 -- the three that stand first
-pub starts-fresh : (n : ℕ) → 12 ≤ 4 * n → Starts fresh (set (set (set (replicate n 0) 0 1) 1 1) 2 1)
+pub starts-fresh : (n : ℕ) → fewest ≤ 4 * n → Starts fresh (set (set (set (replicate n 0) 0 1) 1 1) 2 1)
 unfolding mark
 starts-fresh n h =
     let f : List ℕ = replicate n 0 in

@@ -9,7 +9,7 @@ use lib.Dec.{eqb, leb, ltb}
 use Rattle.arena.specs.Lists.{every, within, all, sameList, evens, holdsField, rising}
 use Rattle.arena.specs.Nodes.{Node, node, Nodes, kindAt, typeAt, parAt, memAt, argAt, elemAt, widthAt, args, fieldTypes, same, find, fresh}
 use Rattle.arena.specs.Cells.{parse, used}
-use Rattle.arena.specs.Walks.{hasSet}
+use Rattle.arena.specs.Walks.{setFree}
 
 -- ---- limits
 
@@ -64,7 +64,7 @@ typeTest a k p ms x =
     cond (eqb k 1) (every (eqb (length ms) 0 ∷ eqb p 0 ∷ []))
     (cond (eqb k 2) (every (eqb (length ms) 0 ∷ leb 1 p ∷ leb p 64 ∷ []))
     (cond (eqb k 3) (every (eqb (length ms) 1 ∷ eqb p 0 ∷ []))
-    (cond (eqb k 4) (every (eqb (length ms) 1 ∷ eqb p 0 ∷ not (hasSet a x) ∷ []))
+    (cond (eqb k 4) (every (eqb (length ms) 1 ∷ eqb p 0 ∷ setFree a x ∷ []))
     (every (eqb k 5 ∷ eqb p 0 ∷ fieldRun ms ∷ [])))))
 
 -- 16 bool literal, 17 bitvec literal, 18 None, 19 Some, 20 Set, 21 Record, 22 variable
@@ -167,9 +167,9 @@ formed c m = every (within fewest most (length c) ∷ leb m (length c) ∷ fille
 
 -- the cells below m are a well-formed arena
 pub record Below (c : List ℕ) (m : ℕ) : Type 0 where
-  pub least : 12 ≤ m
+  pub least : fewest ≤ m
   pub fits : m ≤ length c
-  pub short : length c ≤ 65536
+  pub short : length c ≤ most
   pub reads : parse (take m c) ≡ some (used c m)
   pub well : wellFormed (used c m) ≡ true
 
