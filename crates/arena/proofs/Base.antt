@@ -4,7 +4,7 @@ use Prim.Native.Nat.{ℕ}
 use native.Mathlib.Omega.{arith}
 use mathlib.Core.Bool.{true, false}
 use Rattle.arena.specs.Lists.{every}
-use Rattle.arena.specs.Nodes.{Node, Nodes, mark, over, nodeAt, args, keys, F, T}
+use Rattle.arena.specs.Nodes.{Node, Nodes, mark, over, nodeAt, positions, keys, F, T}
 use Rattle.arena.specs.Walks.{ruled, walked, litRule, isLit}
 use Rattle.arena.specs.WellFormed.{isType}
 use Rattle.arena.specs.Values.{bool}
@@ -30,11 +30,11 @@ unfolding nodeAt over mark
 true-tm w = tm-ext (w .base) (record { isterm = refl; typed = refl })
 
 pub false-means : (I : Interp) {a : Nodes} → WF a → meaning I a F ≡ bool false
-unfolding meaning over mark meanNode term makerMeans args keys
+unfolding meaning over mark meanNode term makerMeans positions keys
 false-means I w = meaning-ext I (w .base) F (omega arith)
 
 pub true-means : (I : Interp) {a : Nodes} → WF a → meaning I a T ≡ bool true
-unfolding meaning over mark meanNode term makerMeans args keys
+unfolding meaning over mark meanNode term makerMeans positions keys
 true-means I w = meaning-ext I (w .base) T (omega arith)
 
 pub false-lit : {a : Nodes} → WF a → isLit a F ≡ true

@@ -8,7 +8,7 @@ use lib.ListN.{length, getD}
 use lib.Dec.{eqb, leb, ltb}
 use borrow.Author.Tests.{eqb-true, eqb-false, leb-true, leb-false, le-leb, lt-leb, ltb-true}
 use Rattle.arena.specs.Lists.{all, mem?, evens, odds}
-use Rattle.arena.specs.Nodes.{Node, node, Nodes, nodeAt, kindAt, typeAt, parAt, memAt, argAt, args, keys, fieldTypes}
+use Rattle.arena.specs.Nodes.{Node, node, Nodes, nodeAt, kindAt, typeAt, parAt, memAt, argAt, positions, args, keys, fieldTypes}
 use Rattle.arena.specs.Walks.{ruled, litRule, isLit}
 use Rattle.arena.specs.WellFormed.{fieldRun, isTerm, makerTest}
 use Rattle.arena.specs.Values.{Value, bool, bits, vnone, vsome, vset, vrec, eqV, setV, memV, recV}
@@ -78,7 +78,7 @@ module _ (I : Interp) {a : Nodes} (w : WF a) where
   low-args p k e t = subst (λ (n : Node). all (λ x. ltb x p) (args n) ≡ true) (node-kind a p k e) (args-below (w .chain) p (term-pos a p t))
 
   pub value-kind : (p : ℕ) → Lit p → valKind (M p) ≡ kindAt a p
-  unfolding valKind meanNode term makerMeans args keys
+  unfolding valKind meanNode term makerMeans positions keys
   value-kind p l =
       let t = l .isterm in
       six (kindAt a p) (term-kind a p t) (lit-kind p l)
@@ -123,7 +123,7 @@ module _ (I : Interp) {a : Nodes} (w : WF a) where
     both k h = sym (mean-kind I (w .chain) p k h tp) ∙ e ∙ mean-kind I (w .chain) q k (sym kinds ∙ h) tq
 
     case16 : kindAt a p ≡ 16 → p ≡ q
-    unfolding makerTest meanNode term makerMeans args keys
+    unfolding makerTest meanNode term makerMeans positions keys
     case16 h =
         let h' = sym kinds ∙ h in
         let x = every-all _ (maker-test w p 16 h (omega arith) (omega arith)) in
@@ -134,7 +134,7 @@ module _ (I : Interp) {a : Nodes} (w : WF a) where
         (mem0 _ (eqb-true _ _ (x .0)) ∙ sym (mem0 _ (eqb-true _ _ (y .0))))
 
     case17 : kindAt a p ≡ 17 → p ≡ q
-    unfolding makerTest meanNode term makerMeans args keys
+    unfolding makerTest meanNode term makerMeans positions keys
     case17 h =
         let h' = sym kinds ∙ h in
         let x = every-all _ (maker-test w p 17 h (omega arith) (omega arith)) in
@@ -163,7 +163,7 @@ module _ (I : Interp) {a : Nodes} (w : WF a) where
         }) v
 
     case19 : kindAt a p ≡ 19 → p ≡ q
-    unfolding makerTest meanNode term makerMeans args keys
+    unfolding makerTest meanNode term makerMeans positions keys
     case19 h =
         let h' = sym kinds ∙ h in
         let x = every-all _ (maker-test w p 19 h (omega arith) (omega arith)) in
@@ -181,7 +181,7 @@ module _ (I : Interp) {a : Nodes} (w : WF a) where
         one p q 19 tp h h' (l .types) (eqb-true _ _ (x .1 .0) ∙ sym (eqb-true _ _ (y .1 .0))) (mp ∙ ap (λ (z : ℕ). z ∷ []) i ∙ sym mq)
 
     case20 : kindAt a p ≡ 20 → p ≡ q
-    unfolding makerTest meanNode term makerMeans args keys
+    unfolding makerTest meanNode term makerMeans positions keys
     case20 h =
         let h' = sym kinds ∙ h in
         let x = every-all _ (maker-test w p 20 h (omega arith) (omega arith)) in
@@ -226,7 +226,7 @@ module _ (I : Interp) {a : Nodes} (w : WF a) where
         cc
 
     case21 : kindAt a p ≡ 21 → p ≡ q
-    unfolding makerTest fieldRun meanNode term makerMeans args keys
+    unfolding makerTest fieldRun meanNode term makerMeans positions keys
     case21 h =
         let h' = sym kinds ∙ h in
         let x = every-all _ (maker-test w p 21 h (omega arith) (omega arith)) in

@@ -110,7 +110,7 @@ term-ext {o} {a} e x k = subst (λ (n : Node). leb 16 (n .kind) ≡ true) (sym (
 pub placed-term : (o : Nodes) (n : Node) → 16 ≤ n .kind → goodNode o n ≡ true → (isType o (n .type) ≡ true) × (all (isTerm o) (args n) ≡ true)
 unfolding goodNode placed
 placed-term o n h e =
-    let p : placed o n ≡ true = every-all _ e .0 in
+    let p : placed o (n .kind) (n .type) (n .mem) ≡ true = every-all _ e .0 in
     let q : every (isType o (n .type) ∷ all (isTerm o) (args n) ∷ []) ≡ true = rw (lt-leb (n .kind) 15 h, placed) at p in
     let r = every-all _ q in (r .0, r .1 .0)
 
@@ -118,7 +118,7 @@ placed-term o n h e =
 pub placed-type : (o : Nodes) (n : Node) → n .kind ≤ 15 → goodNode o n ≡ true → (n .type ≡ 0) × (all (isType o) (args n) ≡ true)
 unfolding goodNode placed
 placed-type o n h e =
-    let p : placed o n ≡ true = every-all _ e .0 in
+    let p : placed o (n .kind) (n .type) (n .mem) ≡ true = every-all _ e .0 in
     let q : every (eqb (n .type) 0 ∷ all (isType o) (args n) ∷ []) ≡ true = rw (le-leb (n .kind) 15 h, placed) at p in
     let r = every-all _ q in (eqb-true _ _ (r .0), r .1 .0)
 

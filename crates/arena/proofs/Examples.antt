@@ -12,7 +12,7 @@ use Rattle.bitvec.specs.Logic.{byTops, bvsub, bvsdiv, bvsrem, bvsmod, bvsmodOf,
 use Rattle.bitvec.specs.Overflow.{bv2int, outside, bvnego, bvsaddo, bvssubo, bvsmulo}
 use Rattle.bitvec.specs.Numbered.{bvappOf, bvcmpOf, bvsoOf}
 use Rattle.arena.specs.Lists.{every, all, any, sameList, evens, odds, field, holdsField, rising}
-use Rattle.arena.specs.Nodes.{Node, node, Nodes, mark, over, nodeAt, args, keys, fieldTypes, same, find, fresh}
+use Rattle.arena.specs.Nodes.{Node, node, Nodes, mark, over, nodeAt, positions, keys, fieldTypes, same, find, fresh}
 use Rattle.arena.specs.Cells.{cells, padded, parseOn, parse, used}
 use Rattle.arena.specs.Walks.{ruled, walked, freeRule}
 use Rattle.arena.specs.WellFormed.{fieldRun, placed, typeTest, makerTest, coreTest, bvTest, dataTest, kindTest, goodNode, isFresh, startsFresh, goodNodes, absent, distinct, wellFormed, filled, clear, formed}
@@ -203,11 +203,11 @@ hold [] = true
 hold (r ∷ rs) = every (holds r ∷ hold rs ∷ [])
 
 rows-hold : hold rows ≡ true
-unfolding every all any sameList evens odds field holdsField rising mark over nodeAt args fieldTypes same find cells parseOn parse used ruled walked freeRule fieldRun placed typeTest makerTest coreTest bvTest dataTest kindTest goodNode isFresh startsFresh goodNodes absent distinct wellFormed filled clear formed build base two full start whole fields rows follows holds hold
+unfolding every all any sameList evens odds field holdsField rising mark over nodeAt positions fieldTypes same find cells parseOn parse used ruled walked freeRule fieldRun placed typeTest makerTest coreTest bvTest dataTest kindTest goodNode isFresh startsFresh goodNodes absent distinct wellFormed filled clear formed build base two full start whole fields rows follows holds hold
 rows-hold = refl
 
 base-holds : wellFormed base ≡ true
-unfolding every all any sameList evens odds field holdsField rising mark over nodeAt args fieldTypes same find cells parseOn parse used ruled walked freeRule fieldRun placed typeTest makerTest coreTest bvTest dataTest kindTest goodNode isFresh startsFresh goodNodes absent distinct wellFormed filled clear formed build base two full start whole fields rows follows holds hold
+unfolding every all any sameList evens odds field holdsField rising mark over nodeAt positions fieldTypes same find cells parseOn parse used ruled walked freeRule fieldRun placed typeTest makerTest coreTest bvTest dataTest kindTest goodNode isFresh startsFresh goodNodes absent distinct wellFormed filled clear formed build base two full start whole fields rows follows holds hold
 base-holds = refl
 
 -- 400 cells that end with the node
@@ -282,5 +282,5 @@ meant [] = true
 meant (e ∷ es) = every (eqV (meaning sample full (e .0)) (e .1) ∷ meant es ∷ [])
 
 pub meanings-hold : meant meanings ≡ true
-unfolding evens odds mark over nodeAt args keys compareT compareV eqV ltV risingV insertV setV memV subsetV interV recV fieldV asBool asBits asSet asRec getOr allV code fits zeroOf recTy mkTy tyNode tyOf width noneGet makerMeans coreMeans bvMeans dataMeans term meanNode meaning nat2bv extract concat allOnes bvnot bvneg bvadd bvmul bvudiv bvurem bvshl bvlshr bvult top byTops bvsub bvsdiv bvsrem bvabs bvsmodOf bvsmod bvule bvslt bvsle zeroExtend bv2int outside bvnego bvsaddo bvssubo bvsmulo bvappOf bvcmpOf bvsoOf every build base two full sample meanings meant
+unfolding evens odds mark over nodeAt positions keys compareT compareV eqV ltV risingV insertV setV memV subsetV interV recV fieldV asBool asBits asSet asRec getOr allV code fits zeroOf recTy mkTy tyNode tyOf width noneGet makerMeans coreMeans bvMeans dataMeans term meanNode meaning nat2bv extract concat allOnes bvnot bvneg bvadd bvmul bvudiv bvurem bvshl bvlshr bvult top byTops bvsub bvsdiv bvsrem bvabs bvsmodOf bvsmod bvule bvslt bvsle zeroExtend bv2int outside bvnego bvsaddo bvssubo bvsmulo bvappOf bvcmpOf bvsoOf every build base two full sample meanings meant
 meanings-hold = refl

@@ -10,7 +10,7 @@ use lib.ListN.{length, take}
 use lib.Seq.{length-take-le}
 use borrow.Author.Tests.{leb-true, le-leb}
 use Rattle.arena.specs.Lists.{every, all, sameList}
-use Rattle.arena.specs.Nodes.{Node, node, Nodes, mark, over, nodeAt, args, same, find, fresh}
+use Rattle.arena.specs.Nodes.{Node, node, Nodes, mark, over, nodeAt, positions, same, find, fresh}
 use Rattle.arena.specs.Cells.{cells, parse, used}
 use Rattle.arena.specs.WellFormed.{fewest, most, placed, typeTest, makerTest, kindTest, goodNode, isFresh, startsFresh, goodNodes, absent, distinct, wellFormed, filled, formed, Below, IsArena}
 use Rattle.arena.specs.Values.{fits}
@@ -84,7 +84,7 @@ unfolding wellFormed
 wf-test w = let r = chain-tests (w .chain) in all-every _ (ext-starts (w .base), (r .0, (r .1, tt)))
 
 pub fresh-wf : WF fresh
-unfolding goodNode placed kindTest typeTest makerTest every all args nodeAt over mark find same sameList
+unfolding goodNode placed kindTest typeTest makerTest every all positions nodeAt over mark find same sameList
 fresh-wf = record { base = ext-same; chain = link (link (link nil refl refl) refl refl) refl refl }
 
 -- ---- lent cells and a mark

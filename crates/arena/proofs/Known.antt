@@ -10,7 +10,7 @@ use lib.Dec.{eqb}
 use borrow.Author.Tests.{eqb-true, eqb-false, leb-true, le-leb, ltb-true}
 use Rattle.bitvec.specs.Theory.{bvneg}
 use Rattle.arena.specs.Lists.{all, evens, odds, rising}
-use Rattle.arena.specs.Nodes.{Node, node, Nodes, nodeAt, kindAt, typeAt, parAt, memAt, argAt, elemAt, widthAt, args, keys, fieldTypes, F, T}
+use Rattle.arena.specs.Nodes.{Node, node, Nodes, nodeAt, kindAt, typeAt, parAt, memAt, argAt, elemAt, widthAt, positions, keys, fieldTypes, F, T}
 use Rattle.arena.specs.Walks.{ruled, litRule, isLit}
 use Rattle.arena.specs.WellFormed.{fieldRun, isTerm, makerTest, coreTest, bvTest}
 use Rattle.arena.specs.Values.{Value, bool, bits, vnone, vsome, vset, vrec, setV, recV, asBool, asBits, fits, zeroOf}
@@ -73,7 +73,7 @@ pub record SomeNode (a : Nodes) (p : ℕ) : Type 0 where
   pub lits : Lit a p → Lit a (argAt a p 0)
 
 pub some-node : {a : Nodes} → WF a → (p : ℕ) → kindAt a p ≡ 19 → SomeNode a p
-unfolding makerTest meanNode term makerMeans ruled litRule args keys all
+unfolding makerTest meanNode term makerMeans ruled litRule positions keys all
 some-node {a} w p e =
     let h = every-all _ (maker-test w p 19 e (omega arith) (omega arith)) in
     let l = eqb-true (length (memAt a p)) 1 (h .0) in
@@ -98,7 +98,7 @@ pub record SetNode (a : Nodes) (p : ℕ) : Type 0 where
   pub lits : isLit a p ≡ all (isLit a) (memAt a p)
 
 pub set-node : {a : Nodes} → WF a → (p : ℕ) → kindAt a p ≡ 20 → SetNode a p
-unfolding makerTest meanNode term makerMeans ruled litRule args keys
+unfolding makerTest meanNode term makerMeans ruled litRule positions keys
 set-node {a} w p e =
     let h = every-all _ (maker-test w p 20 e (omega arith) (omega arith)) in
     record {
@@ -120,7 +120,7 @@ pub record RecNode (a : Nodes) (p : ℕ) : Type 0 where
   pub lits : isLit a p ≡ all (isLit a) (odds (memAt a p))
 
 pub rec-node : {a : Nodes} → WF a → (p : ℕ) → kindAt a p ≡ 21 → RecNode a p
-unfolding makerTest meanNode term makerMeans ruled litRule args keys
+unfolding makerTest meanNode term makerMeans ruled litRule positions keys
 rec-node {a} w p e =
     let h = every-all _ (maker-test w p 21 e (omega arith) (omega arith)) in
     record {
@@ -140,7 +140,7 @@ pub record NotNode (a : Nodes) (p : ℕ) : Type 0 where
   pub means : (I : Interp) → meaning I a p ≡ bool (not (asBool (meaning I a (argAt a p 0))))
 
 pub not-node : {a : Nodes} → WF a → (p : ℕ) → kindAt a p ≡ 120 → NotNode a p
-unfolding coreTest meanNode term coreMeans args keys
+unfolding coreTest meanNode term coreMeans positions keys
 not-node {a} w p e =
     let h = every-all _ (core-test w p 120 e (omega arith) (omega arith)) in
     let l = eqb-true (length (memAt a p)) 1 (h .0) in
@@ -158,7 +158,7 @@ pub record IteNode (a : Nodes) (p : ℕ) : Type 0 where
   pub means : (I : Interp) → meaning I a p ≡ cond (asBool (meaning I a (argAt a p 0))) (meaning I a (argAt a p 1)) (meaning I a (argAt a p 2))
 
 pub ite-node : {a : Nodes} → WF a → (p : ℕ) → kindAt a p ≡ 125 → IteNode a p
-unfolding coreTest meanNode term coreMeans args keys
+unfolding coreTest meanNode term coreMeans positions keys
 ite-node {a} w p e =
     let h = every-all _ (core-test w p 125 e (omega arith) (omega arith)) in
     let l = eqb-true (length (memAt a p)) 3 (h .0) in
@@ -176,7 +176,7 @@ pub record NegNode (a : Nodes) (p : ℕ) : Type 0 where
   pub means : (I : Interp) → meaning I a p ≡ bits (bvneg (width (tyAt a (argAt a p 0))) (asBits (meaning I a (argAt a p 0))))
 
 pub neg-node : {a : Nodes} → WF a → (p : ℕ) → kindAt a p ≡ 130 → NegNode a p
-unfolding bvTest meanNode term bvMeans args keys
+unfolding bvTest meanNode term bvMeans positions keys
 neg-node {a} w p e =
     let h = every-all _ (bv-test w p 130 e (omega arith) (omega arith)) in
     let l = eqb-true (length (memAt a p)) 1 (h .0) in

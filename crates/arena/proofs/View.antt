@@ -10,7 +10,7 @@ use lib.ListN.{length, getD}
 use lib.Dec.{eqb}
 use borrow.Author.Tests.{ne-eqb, eqb-true, eqb-false, leb-true, leb-false, ltb-true}
 use Rattle.arena.specs.Lists.{every, all, sameList, odds, field, rising}
-use Rattle.arena.specs.Nodes.{Node, node, Nodes, kindAt, typeAt, parAt, memAt, argAt, args, fieldTypes}
+use Rattle.arena.specs.Nodes.{Node, node, Nodes, kindAt, typeAt, parAt, memAt, argAt, positions, args, fieldTypes}
 use Rattle.arena.specs.Walks.{setFree}
 use Rattle.arena.specs.WellFormed.{small, fieldRun, isType, isTerm, typeTest, makerTest, coreTest, bvTest, dataTest, kindTest, goodNode}
 use Rattle.arena.proofs.Bools.{t≢f, every-all, branch}
@@ -58,13 +58,13 @@ pub data Is (a : Nodes) : Node → Type 0 where
 -- ---- members that are positions
 
 pub args-plain : (n : Node) → (n .kind ≡ 5 → ⊥) → (n .kind ≡ 21 → ⊥) → args n ≡ n .mem
-unfolding args
-args-plain n h k = rw (ne-eqb (n .kind) 5 h, ne-eqb (n .kind) 21 k, args)
+unfolding positions
+args-plain n h k = rw (ne-eqb (n .kind) 5 h, ne-eqb (n .kind) 21 k, positions)
 
 pub args-fields : (n : Node) → (n .kind ≡ 5) ⊎ (n .kind ≡ 21) → args n ≡ odds (n .mem)
-unfolding args
-args-fields n (inl h) = rw (h, args)
-args-fields n (inr h) = rw (h, args)
+unfolding positions
+args-fields n (inl h) = rw (h, positions)
+args-fields n (inr h) = rw (h, positions)
 
 -- ---- from the test to the case
 

@@ -10,7 +10,7 @@ use lib.ListN.{length, getD}
 use lib.Dec.{eqb}
 use borrow.Author.Tests.{eq-eqb, ne-eqb, eqb-true, le-leb, lt-leb, lt-ltb}
 use Rattle.arena.specs.Lists.{every, all, sameList, odds, field}
-use Rattle.arena.specs.Nodes.{Node, node, Nodes, nodeAt, kindAt, typeAt, parAt, memAt, argAt, args, fieldTypes}
+use Rattle.arena.specs.Nodes.{Node, node, Nodes, nodeAt, kindAt, typeAt, parAt, memAt, argAt, positions, args, fieldTypes}
 use Rattle.arena.specs.Walks.{freeRule}
 use Rattle.arena.specs.WellFormed.{isType, isTerm, placed, typeTest, makerTest, coreTest, bvTest, dataTest, kindTest, goodNode}
 use Rattle.arena.proofs.Bools.{all-every}
@@ -116,13 +116,13 @@ module _ {a : Nodes} (w : WF a) where
 
   -- the element of an Option or a Set
   pub elem-type : (t : ℕ) → (kindAt a t ≡ 3) ⊎ (kindAt a t ≡ 4) → isType a (argAt a t 0) ≡ true
-  unfolding args
+  unfolding positions
   elem-type t (inl h) = all-at (isType a) (argAt a t 0) [] (subst (λ (r : List ℕ). all (isType a) r ≡ true) (one-mem (w .chain) t (inl h)) (type-args t 3 h (omega arith) (omega arith))) .0
   elem-type t (inr h) = all-at (isType a) (argAt a t 0) [] (subst (λ (r : List ℕ). all (isType a) r ≡ true) (one-mem (w .chain) t (inr h)) (type-args t 4 h (omega arith) (omega arith))) .0
 
   -- the fields of a Record
   pub fields-type : (t : ℕ) → kindAt a t ≡ 5 → all (isType a) (odds (memAt a t)) ≡ true
-  unfolding args
+  unfolding positions
   fields-type t h = type-args t 5 h (omega arith) (omega arith)
 
   pub field-type : (t k u : ℕ) → kindAt a t ≡ 5 → field (memAt a t) k ≡ some u → isType a u ≡ true
@@ -135,11 +135,11 @@ module _ {a : Nodes} (w : WF a) where
   bv-good n x y e lo hi t mx my g =
       all-every _ (pl, (rw (lt-leb (n .kind) 15 (omega arith), lt-leb (n .kind) 99 (omega arith), lt-leb (n .kind) 129 (omega arith), le-leb (n .kind) 149 hi, kindTest, e) g, tt))
     where
-      pl : placed a n ≡ true
+      pl : placed a (n .kind) (n .type) (n .mem) ≡ true
       pl = unfold placed in rw (lt-leb (n .kind) 15 (omega arith), args-plain n (λ z. omega arith) (λ z. omega arith), placed, e) (p2 (n .type) x y t mx my)
 
   pub good-is : {n : Node} → Is a n → goodNode a n ≡ true
-  unfolding goodNode placed kindTest typeTest makerTest coreTest bvTest dataTest args
+  unfolding goodNode placed kindTest typeTest makerTest coreTest bvTest dataTest positions
   good-is is-bool = all-every _ (all-every _ (refl, (all0 (isType a), tt)), (all-every _ (refl, (refl, tt)), tt))
   good-is (is-bv k p q) = all-every _ (all-every _ (refl, (all0 (isType a), tt)), (all-every _ (refl, (le-leb 1 k p, (le-leb k 64 q, tt))), tt))
   good-is (is-opt t p) = all-every _ (all-every _ (refl, (all1 (isType a) t p, tt)), (all-every _ (refl, (refl, tt)), tt))

@@ -1,13 +1,13 @@
 -- When an arena is well formed, clause by clause as document 01 says it. Every test computes.
 use mathlib.Core.Path.{_≡_}
 use Prim.Native.Nat.{ℕ, _+_, _^_, _%_, _≤_}
-use mathlib.Core.Bool.{Bool, true, false, not, cond, _||_}
+use mathlib.Core.Bool.{Bool, true, false, cond, _||_}
 use mathlib.Core.Option.{Option, none, some}
 use mathlib.Core.List.{List, [], _∷_}
 use lib.ListN.{length, getD, take, drop}
 use lib.Dec.{eqb, leb, ltb}
 use Rattle.arena.specs.Lists.{every, within, all, sameList, evens, holdsField, rising}
-use Rattle.arena.specs.Nodes.{Node, node, Nodes, kindAt, typeAt, parAt, memAt, argAt, elemAt, widthAt, args, fieldTypes, same, find, fresh}
+use Rattle.arena.specs.Nodes.{Node, node, Nodes, kindAt, typeAt, parAt, memAt, argAt, elemAt, widthAt, positions, fieldTypes, same, find}
 use Rattle.arena.specs.Cells.{parse, used}
 use Rattle.arena.specs.Walks.{setFree}
 
@@ -38,11 +38,11 @@ isType a p = within 1 15 (kindAt a p)
 abbrev pub isTerm : Nodes → ℕ → Bool
 isTerm a p = leb 16 (kindAt a p)
 
--- a node over the nodes before it: a type has type cell 0 and types as members, a term has a type and terms
-unfoldable pub placed : Nodes → Node → Bool
-placed a n =
-    cond (leb (n .kind) 15) (every (eqb (n .type) 0 ∷ all (isType a) (args n) ∷ []))
-    (every (isType a (n .type) ∷ all (isTerm a) (args n) ∷ []))
+-- a node of kind k, type cell t and members ms over the nodes before it: a type has type cell 0 and types as members, a term has a type and terms
+unfoldable pub placed : Nodes → ℕ → ℕ → List ℕ → Bool
+placed a k t ms =
+    cond (leb k 15) (every (eqb t 0 ∷ all (isType a) (positions k ms) ∷ []))
+    (every (isType a t ∷ all (isTerm a) (positions k ms) ∷ []))
 
 -- ---- types, counts and parameters: tests on a node's numbers, k its kind, t its type, p its parameter, ms its members, x y z the first three
 
@@ -118,7 +118,7 @@ kindTest a k t p ms x y z =
 -- a node over the nodes before it
 unfoldable pub goodNode : Nodes → Node → Bool
 goodNode a n =
-    every (placed a n ∷ kindTest a (n .kind) (n .type) (n .par) (n .mem) (getD (n .mem) 0 0) (getD (n .mem) 1 0) (getD (n .mem) 2 0) ∷ [])
+    every (placed a (n .kind) (n .type) (n .mem) ∷ kindTest a (n .kind) (n .type) (n .par) (n .mem) (getD (n .mem) 0 0) (getD (n .mem) 1 0) (getD (n .mem) 2 0) ∷ [])
 
 -- ---- the whole arena
 
