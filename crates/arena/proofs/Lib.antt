@@ -32,6 +32,7 @@ pub mod Read
 pub mod Tiling
 pub mod Scan
 pub mod Padded
+pub mod Walks
 pub mod Lent
 -- by computation
 pub mod Examples
