@@ -226,11 +226,10 @@ pub fn shl(width: Width, lhs: u64, rhs: u64) -> u64
     requires { ⌜ IsWidth (width .0) ⌝ }
     ensures { λ r. ⌜ r ≡ bvshl (width .0) lhs rhs ⌝ }
 {
-    if rhs < width.0 {
-        of_nat(width, lhs << rhs)
-    } else {
-        0
+    if width.0 <= rhs {
+        return 0;
     }
+    of_nat(width, lhs << rhs)
 }
 
 pub fn lshr(width: Width, lhs: u64, rhs: u64) -> u64
