@@ -5,7 +5,7 @@ use mathlib.Core.List.{List, [], _∷_}
 use Prim.Native.Nat.{ℕ, _-_, _^_}
 use lib.Dec.{eqb}
 use Rattle.bitvec.specs.Theory.{nat2bv, extract, concat, allOnes, bvneg, bvadd, bvudiv, bvurem, bvshl, bvult}
-use Rattle.bitvec.specs.Logic.{top, byTops, bvsdiv, bvsrem, bvabs, bvsmodOf, bvsmod, bvslt}
+use Rattle.bitvec.specs.Logic.{top, byTops, byTop, bvsdiv, bvsrem, bvabs, bvsmodOf, bvsmod, bvslt}
 use Rattle.bitvec.specs.Overflow.{bv2int, outside, bvnego, bvsmulo}
 
 abbrev every : List Bool → Bool
@@ -35,5 +35,5 @@ examples =
     ∷ []
 
 examples-hold : every examples ≡ true
-unfolding examples nat2bv extract concat allOnes bvneg bvadd bvudiv bvurem bvshl bvult top byTops bvsdiv bvsrem bvabs bvsmodOf bvsmod bvslt bv2int outside bvnego bvsmulo
+unfolding examples nat2bv extract concat allOnes bvneg bvadd bvudiv bvurem bvshl bvult top byTops byTop bvsdiv bvsrem bvabs bvsmodOf bvsmod bvslt bv2int outside bvnego bvsmulo
 examples-hold = refl

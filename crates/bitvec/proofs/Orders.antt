@@ -9,10 +9,10 @@ use lib.IntN.{ℤ, pos, negsuc, negℤ, _-ℤ_}
 use lib.Signed.{ltZ, leZ}
 use borrow.Author.Tests.{lt-ltb, le-ltb, le-leb, lt-leb, eq-eqb, ne-eqb}
 use Rattle.bitvec.specs.Theory.{bvult}
-use Rattle.bitvec.specs.Logic.{top, bvule, bvslt, bvsle}
+use Rattle.bitvec.specs.Logic.{top, byTop, bvule, bvslt, bvsle}
 use Rattle.bitvec.specs.Overflow.{bv2int}
 use Rattle.bitvec.proofs.Tops.{le-or-lt, bit, top-lt}
-use Rattle.bitvec.proofs.Absolute.{slt-tops, sle-tops}
+use Rattle.bitvec.proofs.Absolute.{order}
 use Rattle.bitvec.proofs.Whole.{sub-lt}
 
 pub ule-le : (s t : ℕ) → bvule s t ≡ leb s t
@@ -59,9 +59,10 @@ module _ (m s t : ℕ) (hs : s < 2 ^ m) (ht : t < 2 ^ m) where
       → q ≡ r (negsuc (2 ^ m - suc s)) (negsuc (2 ^ m - suc t))
       → r (negsuc (2 ^ m - suc s)) (pos t) ≡ true
       → r (pos s) (negsuc (2 ^ m - suc t)) ≡ false
-      → cond (eqb (top m s) (top m t)) q (eqb (top m s) 1) ≡ r (bv2int m s) (bv2int m t)
+      → byTop (top m s) (top m t) q ≡ r (bv2int m s) (bv2int m t)
   by-tops q r low high less more =
-      ⊎-elim
+      order q (top m s) (top m t) (top-lt m s) (top-lt m t)
+      ∙ ⊎-elim
       (λ (x : top m s ≡ 0).
       ⊎-elim (λ (y : top m t ≡ 0). rw (value-0 m s x, value-0 m t y, x, y) low)
       (λ (y : top m t ≡ 1). rw (value-0 m s x, value-1 m t ht y, x, y) (sym more)) (bit (top-lt m t)))
@@ -71,10 +72,9 @@ module _ (m s t : ℕ) (hs : s < 2 ^ m) (ht : t < 2 ^ m) where
       (bit (top-lt m s))
 
   pub slt-values : bvslt m s t ≡ ltZ (bv2int m s) (bv2int m t)
-  unfolding bvult
-  slt-values = slt-tops m s t ∙ by-tops (bvult s t) ltZ refl (down-lt (2 ^ m) s t hs ht) refl refl
+  unfolding bvult bvslt
+  slt-values = by-tops (bvult s t) ltZ refl (down-lt (2 ^ m) s t hs ht) refl refl
 
   pub sle-values : bvsle m s t ≡ leZ (bv2int m s) (bv2int m t)
-  sle-values =
-      sle-tops m s t
-      ∙ by-tops (bvule s t) leZ (ule-le s t) (ule-le s t ∙ down-le (2 ^ m) s t hs ht) refl refl
+  unfolding bvsle
+  sle-values = by-tops (bvule s t) leZ (ule-le s t) (ule-le s t ∙ down-le (2 ^ m) s t hs ht) refl refl
