@@ -1,5 +1,5 @@
 #!/bin/bash
-# Checks the built oracle: what was compiled is the original, byte for byte, and 01's worked examples give what is
+# Checks the built oracle: what was compiled is the original, byte for byte, and the scope document's worked examples give what is
 # recorded of them. SYMCC_SRC is as for build.sh.
 set -euo pipefail
 here=$(dirname "$(readlink -f "$0")")

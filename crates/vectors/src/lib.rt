@@ -2,34 +2,34 @@
 // case counts as different, so that nothing is passed over.
 use bitvec::Width;
 ghost use mathlib.Core.Path.{_≡_};
-ghost use mathlib.Core.Bool.{Bool, true};
+ghost use mathlib.Core.Bool.{true};
 ghost use Prim.Native.Nat.{_+_, _<_, _≤_, _^_};
 ghost use Rattle.bitvec.specs.Theory.{IsWidth, IsBv, AreBv};
 ghost use Rattle.bitvec.specs.Logic.{zeroExtend};
 ghost use Rattle.vectors.specs.Answers.{plainOf, Right};
 
 // A line of a list: an operation at a width, its operands, and the answer that another gave.
-pub struct Case {
-    pub operation: u64,
-    pub width: u64,
-    pub first: u64,
-    pub second: u64,
-    pub answer: u64,
+struct Case {
+    operation: u64,
+    width: u64,
+    first: u64,
+    second: u64,
+    answer: u64,
 }
 
-pub enum Parsed {
+enum Parsed {
     Good(Case),
     Bad,
 }
 
 // A number, and the place after it.
-pub enum Number {
+enum Number {
     Read(u64, usize),
     Bad,
 }
 
 // What a line is: the heading of a list, or a case.
-pub enum Line {
+enum Line {
     Original,
     Solver,
     Same,
@@ -62,7 +62,7 @@ fn wide(x: u8) -> u64
 }
 
 // The decimal number at a place, of one digit or more and below 2^64.
-pub fn read_number(s: &[u8], from: usize) -> Number {
+fn read_number(s: &[u8], from: usize) -> Number {
     let mut at = from;
     let mut value: u64 = 0;
     while at < s.len() {
@@ -84,7 +84,7 @@ pub fn read_number(s: &[u8], from: usize) -> Number {
 }
 
 // A number with one space after it.
-pub fn read_field(s: &[u8], from: usize) -> Number {
+fn read_field(s: &[u8], from: usize) -> Number {
     let Number::Read(value, end) = read_number(s, from) else {
         return Number::Bad;
     };
@@ -97,7 +97,7 @@ pub fn read_field(s: &[u8], from: usize) -> Number {
 }
 
 // The five numbers of a case, and nothing else.
-pub fn parse(s: &[u8]) -> Parsed {
+fn parse(s: &[u8]) -> Parsed {
     let Number::Read(operation, a) = read_field(s, 0) else {
         return Parsed::Bad;
     };
@@ -184,8 +184,8 @@ fn extends(width: Width, n: u64, v: u64, answer: u64) -> bool
     bitvec::zero_extend(width, n, v) == answer
 }
 
-// Whether the case is one of 01's operations on operands of its width, and has our answer.
-pub fn agrees(c: Case) -> bool
+// Whether the case is one of the operations on operands of its width, and has our answer.
+fn agrees(c: Case) -> bool
     ensures { λ r. ⌜ (r ≡ true → Right (c .operation) (c .width) (c .first) (c .second) (c .answer)) ⌝ }
 {
     if c.width < 1 {
@@ -210,7 +210,7 @@ pub fn agrees(c: Case) -> bool
     answer(c.operation, width, c.first, c.second) == c.answer
 }
 
-pub fn judge(s: &[u8]) -> Line {
+fn judge(s: &[u8]) -> Line {
     if check::same(s, b"original") {
         return Line::Original;
     }
@@ -263,7 +263,7 @@ pub fn start() -> Replay {
     }
 }
 
-// A case has been compared: counts it in its list, and keeps the number of its line if it differs and there is room.
+// A case more in the list that is being read.
 fn compared(r: Replay, differs: bool) -> Replay {
     let mut next = r;
     if next.in_solver {
@@ -274,7 +274,7 @@ fn compared(r: Replay, differs: bool) -> Replay {
     next
 }
 
-// The number of a line that differs goes to the first free place.
+// The number of a line that differs goes to the first free place, if there is one.
 fn shown_after(shown: [u64; 8], line: u64) -> [u64; 8] {
     let mut next = shown;
     let mut i: usize = 0;
@@ -337,6 +337,7 @@ fn with_byte(r: Replay, b: u8) -> Replay {
     next
 }
 
+// The next bytes.
 pub fn feed(r: Replay, s: &[u8]) -> Replay {
     let mut next = r;
     let mut i: usize = 0;
