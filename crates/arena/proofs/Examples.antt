@@ -8,7 +8,7 @@ use lib.ListN.{take}
 use lib.Dec.{eqb, leb}
 use borrow.Author.Tests.{leb-true, not-true}
 use Rattle.bitvec.specs.Theory.{nat2bv, extract, allOnes, bvnot, bvneg, bvadd, bvmul, bvudiv, bvurem, bvshl, bvlshr, bvult, concat}
-use Rattle.bitvec.specs.Logic.{byTops, bvsub, bvsdiv, bvsrem, bvsmod, bvsmodOf, bvabs, bvule, bvslt, bvsle, top, zeroExtend}
+use Rattle.bitvec.specs.Logic.{byTop, byTops, bvsub, bvsdiv, bvsrem, bvsmod, bvsmodOf, bvabs, bvule, bvslt, bvsle, top, zeroExtend}
 use Rattle.bitvec.specs.Overflow.{bv2int, outside, bvnego, bvsaddo, bvssubo, bvsmulo}
 use Rattle.bitvec.specs.Numbered.{bvappOf, bvcmpOf, bvsoOf}
 use Rattle.arena.specs.Lists.{every, all, any, sameList, evens, odds, field, holdsField, rising}
@@ -282,5 +282,5 @@ meant [] = true
 meant (e ∷ es) = every (eqV (meaning sample full (e .0)) (e .1) ∷ meant es ∷ [])
 
 pub meanings-hold : meant meanings ≡ true
-unfolding evens odds mark over nodeAt positions keys compareT compareV eqV ltV risingV insertV setV memV subsetV interV recV fieldV asBool asBits asSet asRec getOr allV code fits zeroOf recTy mkTy tyNode tyOf width noneGet makerMeans coreMeans bvMeans dataMeans term meanNode meaning nat2bv extract concat allOnes bvnot bvneg bvadd bvmul bvudiv bvurem bvshl bvlshr bvult top byTops bvsub bvsdiv bvsrem bvabs bvsmodOf bvsmod bvule bvslt bvsle zeroExtend bv2int outside bvnego bvsaddo bvssubo bvsmulo bvappOf bvcmpOf bvsoOf every build base two full sample meanings meant
+unfolding evens odds mark over nodeAt positions keys compareT compareV eqV ltV risingV insertV setV memV subsetV interV recV fieldV asBool asBits asSet asRec getOr allV code fits zeroOf recTy mkTy tyNode tyOf width noneGet makerMeans coreMeans bvMeans dataMeans term meanNode meaning nat2bv extract concat allOnes bvnot bvneg bvadd bvmul bvudiv bvurem bvshl bvlshr bvult top byTop byTops bvsub bvsdiv bvsrem bvabs bvsmodOf bvsmod bvule bvslt bvsle zeroExtend bv2int outside bvnego bvsaddo bvssubo bvsmulo bvappOf bvcmpOf bvsoOf every build base two full sample meanings meant
 meanings-hold = refl
