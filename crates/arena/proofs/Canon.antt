@@ -43,7 +43,7 @@ module _ (I : Interp) {a : Nodes} (w : WF a) where
   abbrev M : ℕ → Value
   M p = meaning I a p
 
-  pub record Lit (p : ℕ) : Type 0 where
+  pub record Literal (p : ℕ) : Type 0 where
     pub isterm : isTerm a p ≡ true
     pub islit : isLit a p ≡ true
 
@@ -51,7 +51,7 @@ module _ (I : Interp) {a : Nodes} (w : WF a) where
   abbrev N : ℕ → ℕ → Node
   N k p = node k (typeAt a p) (parAt a p) (memAt a p)
 
-  pub lit-kind : (p : ℕ) → Lit p → kindAt a p ≤ 21
+  pub lit-kind : (p : ℕ) → Literal p → kindAt a p ≤ 21
   unfolding ruled litRule
   lit-kind p l = go (leb (kindAt a p) 21) refl
     where
@@ -64,7 +64,7 @@ module _ (I : Interp) {a : Nodes} (w : WF a) where
           let h = leb-false (kindAt a p) 21 q in
           t≢f (sym e ∙ rw (lt-leb (kindAt a p) 18 (omega arith), q))
 
-  lit-args : (p k : ℕ) → kindAt a p ≡ k → 19 ≤ k → Lit p → all (isLit a) (args (N k p)) ≡ true
+  lit-args : (p k : ℕ) → kindAt a p ≡ k → 19 ≤ k → Literal p → all (isLit a) (args (N k p)) ≡ true
   unfolding ruled litRule
   lit-args p k e h l =
       let j = lit-kind p l in
@@ -77,7 +77,7 @@ module _ (I : Interp) {a : Nodes} (w : WF a) where
   low-args : (p k : ℕ) → kindAt a p ≡ k → isTerm a p ≡ true → all (λ x. ltb x p) (args (N k p)) ≡ true
   low-args p k e t = subst (λ (n : Node). all (λ x. ltb x p) (args n) ≡ true) (node-kind a p k e) (args-below (w .chain) p (term-pos a p t))
 
-  pub value-kind : (p : ℕ) → Lit p → valKind (M p) ≡ kindAt a p
+  pub value-kind : (p : ℕ) → Literal p → valKind (M p) ≡ kindAt a p
   unfolding valKind meanNode term makerMeans positions keys
   value-kind p l =
       let t = l .isterm in
@@ -105,8 +105,8 @@ module _ (I : Interp) {a : Nodes} (w : WF a) where
       go false p false q = let x = eqb-false m 1 p in let y = eqb-false n 1 q in omega arith
 
   record Pair (p q : ℕ) : Type 0 where
-    left : Lit p
-    right : Lit q
+    left : Literal p
+    right : Literal q
     types : typeAt a p ≡ typeAt a q
 
   module _ (b : ℕ) (ih : (p q : ℕ) → p < b → Pair p q → M p ≡ M q → p ≡ q) (p q : ℕ) (p≤b : p ≤ b) (l : Pair p q) (e : M p ≡ M q) where
