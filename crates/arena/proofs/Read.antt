@@ -33,7 +33,7 @@ module _ {c : List ℕ} {m : ℕ} (B : Below c m) (p : ℕ) (h : 1 ≤ kindAt (u
   pub node-fits : p + (header + length (memAt (used c m) p)) ≤ length c
   node-fits = let x = node-end in let y = B .fits in omega arith
 
-  cell : (i : ℕ) → i < header + length (memAt (used c m) p) → getD c (p + i) 0 ≡ getD (cellsOf (nodeAt (used c m) p)) i 0
+  pub cell : (i : ℕ) → i < header + length (memAt (used c m) p) → getD c (p + i) 0 ≡ getD (cellsOf (nodeAt (used c m) p)) i 0
   cell i l =
       sym (ap (λ (r : List ℕ). getD r (p + i) 0) (cells-are B) ∙ getD-take m c (p + i) 0 (let x = node-end in omega arith))
       ∙ cell-at (wf B .chain) p h i (omega arith)
