@@ -1,13 +1,12 @@
 -- Fresh cells, and cells cleared back to a mark.
-use mathlib.Core.Path.{_≡_, refl, sym, ap, ap₂, _∙_, subst}
+use mathlib.Core.Path.{_≡_, sym, ap, ap₂, _∙_, subst}
 use Prim.Native.Nat.{ℕ, suc, _+_, _-_, _≤_, _<_}
 use native.Mathlib.Omega.{arith}
 use native.Mathlib.Numerals.{add-one}
 use mathlib.Core.Bool.{true, false}
 use mathlib.Core.List.{List, [], _∷_, _++_, append-assoc}
-use lib.ListN.{length, take, drop, set, replicate, take-append-drop, replicate-append-replicate}
+use lib.ListN.{length, take, set, replicate, replicate-append-replicate}
 use lib.Seq.{take-suc-set, take-all}
-use lib.Dec.{leb}
 use borrow.Author.Tests.{le-leb, lt-leb}
 use Rattle.arena.specs.Lists.{every, within}
 use Rattle.arena.specs.Nodes.{mark, fresh, Out}
@@ -17,8 +16,7 @@ use Rattle.arena.specs.Fresh.{cleared, freshMark, freshCells, Freshened}
 use Rattle.arena.specs.Did.{Reply, Done}
 use Rattle.arena.proofs.Bools.{all-every}
 use Rattle.arena.proofs.Ext.{mark-fresh}
-use Rattle.arena.proofs.Formed.{fresh-wf}
-use Rattle.arena.proofs.Padded.{arena-tail, padded-used, padded-arena}
+use Rattle.arena.proofs.Padded.{padded-used, arena-cleared, fresh-arena}
 
 -- ---- cleared
 
@@ -39,10 +37,7 @@ clear-all c b m i l h g k e =
 
 -- cells that agree with an arena below its mark are that arena's again once they are cleared
 pub restored : {c : List ℕ} {m : ℕ} → IsArena c m → (c' : List ℕ) → length c' ≡ length c → take m c' ≡ take m c → cleared c' m ≡ c
-restored {c} {m} A c' l k = ap₂ (λ (t : List ℕ) (n : ℕ). t ++ replicate (n - m) 0) k l ∙ unsplit
-  where
-    unsplit : take m c ++ replicate (length c - m) 0 ≡ c
-    unsplit = ap (λ (r : List ℕ). take m c ++ r) (sym (arena-tail A)) ∙ take-append-drop m c
+restored {c} {m} A c' l k = ap₂ (λ (t : List ℕ) (n : ℕ). t ++ replicate (n - m) 0) k l ∙ arena-cleared A
 
 -- so after steps that had no room, or whose result is thrown away, every cell is as it was
 pub did-clear : {o : Out} {c : List ℕ} {m : ℕ} {r : Reply} {c' : List ℕ} → IsArena c m → Done o c m r c' → cleared c' m ≡ c
@@ -72,10 +67,10 @@ pub fresh-high : (c : List ℕ) → 12 ≤ length c → 65536 < length c → Fre
 fresh-high c h k = same-cells c (within-high (length c) h k)
 
 -- four stores into zeros make a fresh arena
-stored : (k : ℕ) → set (set (set (set (replicate (12 + k) 0) 0 1) 4 16) 8 16) 10 1 ≡ cells fresh ++ replicate k 0
+stored : (n k : ℕ) → n ≡ 12 + k → set (set (set (set (replicate n 0) 0 1) 4 16) 8 16) 10 1 ≡ cells fresh ++ replicate k 0
 unfolding cells
-stored k =
-    let e : 12 + k ≡ suc (suc (suc (suc (suc (suc (suc (suc (suc (suc (suc (suc k))))))))))) = omega arith in
+stored n k q =
+    let e : n ≡ suc (suc (suc (suc (suc (suc (suc (suc (suc (suc (suc (suc k))))))))))) = omega arith in
     ap (λ (n : ℕ). set (set (set (set (replicate n 0) 0 1) 4 16) 8 16) 10 1) e
 
 pub fresh-made : (c : List ℕ) → 12 ≤ length c → length c ≤ 65536 → Freshened c 12 (set (set (set (set (cleared c 0) 0 1) 4 16) 8 16) 10 1)
@@ -85,29 +80,24 @@ fresh-made c h k =
     let e : length c - 0 ≡ 12 + (length c - mark fresh) = let x = mark-fresh in omega arith in
     record {
       marked = sym (rw (w, freshMark) mark-fresh);
-      left =
-          ap (λ (n : ℕ). set (set (set (set (replicate n 0) 0 1) 4 16) 8 16) 10 1) e
-          ∙ stored (length c - mark fresh) ∙ sym (rw (w, freshCells));
+      left = stored (length c - 0) (length c - mark fresh) e ∙ sym (rw (w, freshCells));
     }
 
 -- ---- a fresh arena is well formed
 
-module _ {c : List ℕ} {r : ℕ} {c' : List ℕ} (f : Freshened c r c') (h : 12 ≤ length c) (k : length c ≤ 65536) where
-  fresh-mark : r ≡ mark fresh
+module _ {c : List ℕ} {r : ℕ} {c' : List ℕ} (f : Freshened c r c') (h : fewest ≤ length c) (k : length c ≤ most) where
+  made-mark : r ≡ mark fresh
   unfolding freshMark
-  fresh-mark = f .marked ∙ rw (within-yes (length c) h k, freshMark)
+  made-mark = f .marked ∙ rw (within-yes (length c) h k, freshMark)
 
-  fresh-cells : c' ≡ padded (length c) fresh
+  made-cells : c' ≡ padded (length c) fresh
   unfolding freshCells
-  fresh-cells = f .left ∙ rw (within-yes (length c) h k, freshCells)
+  made-cells = f .left ∙ rw (within-yes (length c) h k, freshCells)
 
-  fits : mark fresh ≤ length c
-  fits = let x = mark-fresh in omega arith
+  pub made-used : used c' r ≡ fresh
+  made-used = (λ i. used (made-cells i) (made-mark i)) ∙ padded-used (length c) fresh (let x = mark-fresh in omega arith)
 
-  pub fresh-used : used c' r ≡ fresh
-  fresh-used = (λ i. used (fresh-cells i) (fresh-mark i)) ∙ padded-used (length c) fresh fits
-
-  pub fresh-arena : IsArena c' r
-  fresh-arena =
-      subst (λ (n : ℕ). IsArena c' n) (sym fresh-mark)
-      (subst (λ (l : List ℕ). IsArena l (mark fresh)) (sym fresh-cells) (padded-arena (length c) fresh fits fresh-wf k))
+  pub made-arena : IsArena c' r
+  made-arena =
+      subst (λ (n : ℕ). IsArena c' n) (sym (made-mark ∙ mark-fresh))
+      (subst (λ (l : List ℕ). IsArena l fewest) (sym made-cells) (fresh-arena (length c) h k))

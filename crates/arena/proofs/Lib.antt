@@ -4,6 +4,7 @@ pub mod Bools
 pub mod Runs
 pub mod Rising
 pub mod Loops
+pub mod Insertion
 pub mod Widths
 -- nodes and arenas
 pub mod Ext
@@ -31,14 +32,13 @@ pub mod Formed
 pub mod Read
 pub mod Tiling
 pub mod Scan
+pub mod Starts
+pub mod Stretch
 pub mod Padded
+pub mod FreshCells
+pub mod Steps
 pub mod Rules
 pub mod Lent
 pub mod Visit
 -- by computation
 pub mod Examples
-pub mod Steps
-pub mod Stretch
-pub mod Starts
-pub mod FreshCells
-pub mod Insertion

@@ -1,5 +1,5 @@
 -- A walk over lent cells from one start of a node to the next: what it has seen says what stands at a number.
-use mathlib.Core.Path.{_≡_, refl, sym, ap, _∙_, subst}
+use mathlib.Core.Path.{_≡_, refl, sym, ap, _∙_}
 use Prim.Native.Nat.{ℕ, _≤_, _<_}
 use native.Mathlib.Omega.{arith}
 use mathlib.Core.Bool.{false}
@@ -8,7 +8,7 @@ use lib.ListN.{length, getD}
 use lib.Dec.{leb}
 use borrow.Author.Tests.{lt-leb, le-leb}
 use Rattle.arena.specs.Lists.{within}
-use Rattle.arena.specs.Nodes.{Node, Nodes, mark, nodeAt, kindAt, memAt}
+use Rattle.arena.specs.Nodes.{Node, Nodes, mark, kindAt, memAt}
 use Rattle.arena.specs.Cells.{used, after}
 use Rattle.arena.specs.WellFormed.{Below}
 use Rattle.arena.proofs.Bools.{every-on, every-off, every-one}

@@ -11,7 +11,7 @@ use lib.Seq.{length-take-le, take-append-le, take-take}
 use lib.Dec.{eqb, leb}
 use borrow.Author.Tests.{eq-eqb, ne-eqb, le-leb, lt-leb, leb-true, leb-false}
 use Rattle.arena.specs.Nodes.{Node, node, Nodes, size, mark, find, Out, out, putFound, put, _⨟_}
-use Rattle.arena.specs.Cells.{cellsOf, cells, padded, used}
+use Rattle.arena.specs.Cells.{cellsOf, padded, used}
 use Rattle.arena.specs.WellFormed.{IsArena}
 use Rattle.arena.specs.Did.{Reply, built, full, reply, Done, putTyped, foundOr}
 use Rattle.arena.proofs.Ext.{Ext, ext-same, ext-one, ext-trans, mark-cons, mark-ext}
@@ -57,6 +57,11 @@ no-room n o = go (leb (mark (o .arena)) n) refl
 -- the answer as it is seen
 pub seen : {o : Out} {c : List ℕ} {m : ℕ} {v w : Reply} {c' : List ℕ} → v ≡ w → Done o c m v c' → Done o c m w c'
 seen e d = record { answer = sym e ∙ d .answer; long = d .long; grown = d .grown; kept = d .kept; left = d .left }
+
+-- a step's answer is one, and so are its cells where it fits
+pub did-once : {o : Out} {c : List ℕ} {m : ℕ} {r s : Reply} {c' d' : List ℕ} → Done o c m r c' → Done o c m s d'
+    → (r ≡ s) × (mark (o .arena) ≤ length c → c' ≡ d')
+did-once f g = (f .answer ∙ sym (g .answer), λ h. f .left h ∙ sym (g .left h))
 
 -- a step is the one that its tests pick
 pub picked : {o q : Out} {c : List ℕ} {m : ℕ} {r : Reply} {c' : List ℕ} → Done o c m r c' → q ≡ o → Done q c m r c'

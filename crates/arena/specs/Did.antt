@@ -6,9 +6,6 @@ use mathlib.Core.Option.{Option, none, some}
 use mathlib.Core.List.{List}
 use lib.ListN.{length, take}
 use lib.Dec.{leb}
-use Rattle.arena.specs.declared.TermPos.{TermPos}
-use Rattle.arena.specs.declared.TypePos.{TypePos}
-use Rattle.arena.specs.declared.cursor.Cursor.{Cursor}
 use Rattle.arena.specs.declared.cursor.TermStep.{TermStep}
 use Rattle.arena.specs.declared.cursor.TypeStep.{TypeStep}
 use Rattle.arena.specs.declared.cursor.NodeStep.{NodeStep}

@@ -4,7 +4,6 @@ use crate::TermPos;
 use crate::TypePos;
 ghost use mathlib.Core.Path.{_≡_};
 ghost use Prim.Native.Nat.{_≤_};
-ghost use lib.ListN.{length};
 ghost use Rattle.arena.specs.Nodes.{kindAt, typeAt, parAt, memAt, argAt};
 ghost use Rattle.arena.specs.Cells.{used};
 ghost use Rattle.arena.specs.WellFormed.{Below, isTerm, isType};

@@ -9,7 +9,8 @@ use Rattle.arena.specs.Cells.{nodeHere}
 use Rattle.arena.specs.Lists.{sameList}
 use Rattle.arena.specs.Nodes.{same, header}
 use Rattle.arena.proofs.Bools.{every-on, every-off, every-one}
-use Rattle.arena.proofs.Stretch.{stretch-length, length-differs}
+use Rattle.arena.proofs.Loops.{list-length}
+use Rattle.arena.proofs.Stretch.{stretch-length}
 use Rattle.arena.proofs.cursor.same_node.Statement.{statement}
 use Rattle.arena.proofs.cursor.same_node.Tie as tie
 
@@ -64,7 +65,7 @@ unfolding same nodeHere
 returns-4 c =
     let l = stretch-length (c .before .before .before .before .before .before .before .before .before .before .args .cells .now) (c .before .before .before .before .before .before .before .before .before .before .args .at + header) (getD (c .before .before .before .before .before .before .before .before .before .before .args .cells .now) (c .before .before .before .before .before .before .before .before .before .before .args .at + 3) 0) (omega arith) in
     every-on _ _ _ (eq-eqb _ _ (c .before .before .before .before .before .before .if1 .left)) (every-on _ _ _ (eq-eqb _ _ (c .before .before .before .before .if2 .left)) (every-on _ _ _ (eq-eqb _ _ (c .before .before .if3 .left))
-    (every-off _ _ (length-differs _ _ (λ e. c .if4 .taken (sym l ∙ e))))))
+    (every-off _ _ (list-length _ _ (λ e. c .if4 .taken (sym l ∙ e))))))
 
 add-same-run : tie.Need-add-same-run
 add-same-run c = search needs

@@ -5,7 +5,8 @@ use Prim.Native.Nat.{_≤_, _-_}
 use native.Mathlib.Omega.{arith}
 use lib.ListN.{length, take, drop}
 use Rattle.arena.specs.Lists.{sameList}
-use Rattle.arena.proofs.Stretch.{stretch-length, stretch-at, tail-same, tail-differs, tail-end}
+use Rattle.arena.proofs.Loops.{list-hit, list-miss, list-end}
+use Rattle.arena.proofs.Stretch.{stretch-length, stretch-at}
 use Rattle.arena.proofs.cursor.same_run.Statement.{statement}
 use Rattle.arena.proofs.cursor.same_run.Tie as tie
 
@@ -43,7 +44,7 @@ returns c =
     let e = stretch-length (a .cells .now) (a .from) (length (a .run .now)) (s .pre) in
     let l = c .before .before .before .before .loop in
     let q = stretch-at (a .cells .now) (a .from) (length (a .run .now)) (s .pre) (l .i) (omega arith) in
-    sym (l .inv .1 ∙ tail-differs xs (a .run .now) (l .i) e (omega arith) (λ w. c .if1 .taken (sym q ∙ w)))
+    sym (l .inv .1 ∙ list-miss xs (a .run .now) (l .i) (omega arith) (omega arith) (λ w. c .if1 .taken (sym q ∙ w)))
 
 add-i : tie.Need-add-i Inv-loop μ-loop
 add-i c = search needs
@@ -59,7 +60,7 @@ loop-again c =
     let e = stretch-length (a .cells .now) (a .from) (length (a .run .now)) (s .pre) in
     let l = c .before .before .before .before .loop in
     let q = stretch-at (a .cells .now) (a .from) (length (a .run .now)) (s .pre) (l .i) (omega arith) in
-    (omega arith, l .inv .1 ∙ tail-same xs (a .run .now) (l .i) e (omega arith) (q ∙ c .if1 .left))
+    (omega arith, l .inv .1 ∙ list-hit xs (a .run .now) (l .i) (omega arith) (omega arith) (q ∙ c .if1 .left))
 
 returns-2 : tie.Need-returns-2 Inv-loop μ-loop
 returns-2 c =
@@ -68,7 +69,7 @@ returns-2 c =
     let xs = take (length (a .run .now)) (drop (a .from) (a .cells .now)) in
     let e = stretch-length (a .cells .now) (a .from) (length (a .run .now)) (s .pre) in
     let l = c .before .loop in
-    sym (l .inv .1 ∙ tail-end xs (a .run .now) (l .i) e (omega arith))
+    sym (l .inv .1 ∙ list-end xs (a .run .now) (l .i) (omega arith) (omega arith))
 
 pub same-run-spec : {M : Type 1} → statement M
 same-run-spec =
