@@ -6,8 +6,8 @@ use Prim.Native.Nat.{ℕ, _+_, _-_, _^_, _≤_, _<_}
 use native.Mathlib.Omega.{arith}
 use lib.Dec.{eqb}
 use borrow.Author.Tests.{eqb-true, eqb-false, eq-eqb, ne-eqb}
-use Rattle.bitvec.specs.Theory.{bvneg, bvadd, bvudiv, bvurem, bvult}
-use Rattle.bitvec.specs.Logic.{top, byTops, bvabs, bvsdiv, bvsrem, bvsmodOf, bvsmod, bvule, bvslt, bvsle}
+use Rattle.bitvec.specs.Theory.{bvneg, bvadd, bvudiv, bvurem}
+use Rattle.bitvec.specs.Logic.{top, byTops, bvabs, bvsdiv, bvsrem, bvsmodOf, bvsmod, byTop}
 use Rattle.bitvec.proofs.Below.{bvabs-lt, bvurem-lt}
 use Rattle.bitvec.proofs.Tops.{top-lt, bit, le-or-lt}
 use Rattle.bitvec.proofs.Negation.{neg-zero, neg-pos}
@@ -99,17 +99,10 @@ smod-rem m s t h =
     ∙ ap (λ (c : Bool). cond c 0 (cond (eqb (top m s) (top m t)) (cond b (bvneg m u) u) (bvadd m (cond b (bvneg m u) u) t))) (sym (if-none m u b l))
     ∙ ap (λ (r : ℕ). cond (eqb r 0) 0 (cond (eqb (top m s) (top m t)) r (bvadd m r t))) (sym (srem-abs m s t))
 
--- an order on signed numbers, from one on their bits
-order : (b : Bool) (x y : ℕ) → x < 2 → y < 2 → (eqb x 1 && eqb y 0 || eqb x y && b) ≡ cond (eqb x y) b (eqb x 1)
-order b = both-bits (λ x y. (eqb x 1 && eqb y 0 || eqb x y && b) ≡ cond (eqb x y) b (eqb x 1)) refl refl refl refl
-
-pub slt-tops : (m s t : ℕ) → bvslt m s t ≡ cond (eqb (top m s) (top m t)) (bvult s t) (eqb (top m s) 1)
-unfolding bvslt
-slt-tops m s t = order (bvult s t) (top m s) (top m t) (top-lt m s) (top-lt m t)
-
-pub sle-tops : (m s t : ℕ) → bvsle m s t ≡ cond (eqb (top m s) (top m t)) (bvule s t) (eqb (top m s) 1)
-unfolding bvsle
-sle-tops m s t = order (bvule s t) (top m s) (top m t) (top-lt m s) (top-lt m t)
+-- a signed order, from one on the bits
+pub order : (b : Bool) (x y : ℕ) → x < 2 → y < 2 → byTop x y b ≡ cond (eqb x y) b (eqb x 1)
+unfolding byTop
+order b = both-bits (λ x y. byTop x y b ≡ cond (eqb x y) b (eqb x 1)) refl refl refl refl
 
 -- the code's comparison of two signs
 pub same-tops : (m s t : ℕ) (b c : Bool) → b ≡ eqb (top m s) 1 → c ≡ eqb (top m t) 1 → eqb (top m s) (top m t) ≡ Bool·beq b c

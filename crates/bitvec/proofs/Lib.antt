@@ -5,7 +5,8 @@ pub mod Tops
 pub mod Negation
 pub mod Absolute
 pub mod Division
-pub mod Orders
 pub mod Columns
 pub mod Whole
+pub mod Orders
 pub mod Decisions
+pub mod Examples

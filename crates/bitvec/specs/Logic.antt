@@ -54,12 +54,15 @@ bvsmod m s t = bvsmodOf m s t (bvurem m (bvabs m s) (bvabs m t))
 unfoldable pub bvule : ℕ → ℕ → Bool
 bvule s t = bvult s t || eqb s t
 
--- the top bits are 1 and 0, or they are equal and bvult s t
+-- by the top bits x and y: they are 1 and 0, or they are equal and the unsigned order holds
+unfoldable pub byTop : ℕ → ℕ → Bool → Bool
+byTop x y unsigned = eqb x 1 && eqb y 0 || eqb x y && unsigned
+
 unfoldable pub bvslt : ℕ → ℕ → ℕ → Bool
-bvslt m s t = eqb (top m s) 1 && eqb (top m t) 0 || eqb (top m s) (top m t) && bvult s t
+bvslt m s t = byTop (top m s) (top m t) (bvult s t)
 
 unfoldable pub bvsle : ℕ → ℕ → ℕ → Bool
-bvsle m s t = eqb (top m s) 1 && eqb (top m t) 0 || eqb (top m s) (top m t) && bvule s t
+bvsle m s t = byTop (top m s) (top m t) (bvule s t)
 
 -- (_ zero_extend i): concat of i zeros and s, a bitvector of width m + i
 unfoldable pub zeroExtend : ℕ → ℕ → ℕ → ℕ

@@ -5,7 +5,7 @@ ghost use Prim.Native.Nat.{ℕ, _+_, _-_, _*_, _≤_, _<_, _^_};
 ghost use lib.Dec.{eqb};
 ghost use lib.IntN.{negℤ, _+ℤ_, _*ℤ_};
 ghost use Rattle.bitvec.specs.Theory.{IsWidth, IsBv, AreBv, nat2bv, allOnes, bvnot, bvneg, bvadd, bvmul, bvudiv, bvurem, bvshl, bvlshr, bvult};
-ghost use Rattle.bitvec.specs.Logic.{top, bvabs, bvsub, bvsdiv, bvsrem, bvsmod, bvule, bvslt, bvsle, zeroExtend};
+ghost use Rattle.bitvec.specs.Logic.{top, byTop, bvabs, bvsub, bvsdiv, bvsrem, bvsmod, bvule, bvslt, bvsle, zeroExtend};
 ghost use Rattle.bitvec.specs.Overflow.{bv2int, outside, bvnego, bvsaddo, bvssubo, bvsmulo};
 ghost use Rattle.bitvec.specs.Numbered.{bvappOf, bvcmpOf, bvsoOf};
 ghost use Rattle.bitvec.specs.Int.{value};
@@ -103,28 +103,31 @@ pub fn int_min(width: Width) -> u64
     1 << (width.0 - 1)
 }
 
+// A signed order from one on the bits: of different signs the negative number is the smaller.
+fn by_sign(width: Width, lhs: u64, rhs: u64, unsigned: bool) -> bool
+    requires { ⌜ AreBv (width .0) lhs rhs ⌝ }
+    ensures { λ r. ⌜ r ≡ byTop (top (width .0) lhs) (top (width .0) rhs) unsigned ⌝ }
+{
+    let lhs_msb = msb(width, lhs);
+    if lhs_msb == msb(width, rhs) {
+        unsigned
+    } else {
+        lhs_msb
+    }
+}
+
 pub fn slt(width: Width, lhs: u64, rhs: u64) -> bool
     requires { ⌜ AreBv (width .0) lhs rhs ⌝ }
     ensures { λ r. ⌜ r ≡ bvslt (width .0) lhs rhs ⌝ }
 {
-    let lhs_msb = msb(width, lhs);
-    if lhs_msb == msb(width, rhs) {
-        ult(lhs, rhs)
-    } else {
-        lhs_msb
-    }
+    by_sign(width, lhs, rhs, ult(lhs, rhs))
 }
 
 pub fn sle(width: Width, lhs: u64, rhs: u64) -> bool
     requires { ⌜ AreBv (width .0) lhs rhs ⌝ }
     ensures { λ r. ⌜ r ≡ bvsle (width .0) lhs rhs ⌝ }
 {
-    let lhs_msb = msb(width, lhs);
-    if lhs_msb == msb(width, rhs) {
-        ule(lhs, rhs)
-    } else {
-        lhs_msb
-    }
+    by_sign(width, lhs, rhs, ule(lhs, rhs))
 }
 
 pub fn ule(lhs: u64, rhs: u64) -> bool
@@ -226,11 +229,10 @@ pub fn shl(width: Width, lhs: u64, rhs: u64) -> u64
     requires { ⌜ IsWidth (width .0) ⌝ }
     ensures { λ r. ⌜ r ≡ bvshl (width .0) lhs rhs ⌝ }
 {
-    if rhs < width.0 {
-        of_nat(width, lhs << rhs)
-    } else {
-        0
+    if width.0 <= rhs {
+        return 0;
     }
+    of_nat(width, lhs << rhs)
 }
 
 pub fn lshr(width: Width, lhs: u64, rhs: u64) -> u64
