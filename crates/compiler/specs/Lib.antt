@@ -1,0 +1,2 @@
+-- The compiled operators, step by step as compiler.rs.
+pub mod Compiler

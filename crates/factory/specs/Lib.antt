@@ -1,0 +1,6 @@
+-- The factory, step by step as factory.rs, on an arena without an end.
+pub mod Makers
+pub mod Core
+pub mod Bitvectors
+pub mod SetSteps
+pub mod Helpers

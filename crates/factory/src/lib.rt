@@ -1,0 +1,1 @@
+// The factory: factory.rs, in its order, over a lent arena.
