@@ -15,3 +15,11 @@ pub mod Fits
 pub mod Sound
 pub mod Flat
 pub mod Formed
+pub mod Read
+pub mod Tiling
+pub mod Scan
+pub mod Padded
+pub mod Rising
+pub mod Fields
+pub mod Canon
+pub mod Known

@@ -13,9 +13,9 @@ use Rattle.arena.specs.Lists.{every, all, sameList, odds, field}
 use Rattle.arena.specs.Nodes.{Node, node, Nodes, nodeAt, kindAt, typeAt, parAt, memAt, argAt, args, fieldTypes}
 use Rattle.arena.specs.WellFormed.{isType, isTerm, placed, typeTest, makerTest, coreTest, bvTest, dataTest, kindTest, goodNode}
 use Rattle.arena.proofs.Bools.{all-every}
-use Rattle.arena.proofs.Runs.{all-at, all0, all1, all2, all3, all-imp, all-imp2, field-holds, field-all}
+use Rattle.arena.proofs.Runs.{all-at, all0, all1, all2, all3, all-get, all-imp, all-imp2, field-holds, field-all}
 use Rattle.arena.proofs.Ext.{Ext, ext-older, node-ext, kind-known, node-kind, hasSet-ext}
-use Rattle.arena.proofs.Chain.{Chain, WF, place, kind-type, type-below, term-below, type-ext, term-ext, placed-type}
+use Rattle.arena.proofs.Chain.{Chain, WF, place, kind-type, type-below, term-below, type-ext, term-ext, placed-term, placed-type}
 use Rattle.arena.proofs.View.{Tm, Is, is-bool, is-bv, is-opt, is-set, is-rec, is-blit, is-lit, is-none, is-some, is-sett, is-recd, is-var, is-not, is-and, is-or, is-eq, is-ite, is-uf, is-neg, is-bvn, is-nego, is-bvt, is-zext, is-mem, is-sub, is-int, is-get, is-fld, args-plain, view, tested}
 use Rattle.arena.proofs.Types.{one-mem}
 use Rattle.arena.proofs.Base.{tm-ext, bool-type, tm-type}
@@ -199,3 +199,27 @@ unfolding kindTest
 maker-test {a} w p k e h j =
     let g = tested a (node k (typeAt a p) (parAt a p) (memAt a p)) (good-kind w p k e (omega arith)) in
     rw (lt-leb k 15 h, le-leb k 99 j, kindTest) at g
+
+-- the test of an application's node
+module _ {a : Nodes} (w : WF a) (p k : ℕ) (e : kindAt a p ≡ k) where
+  node-test : 1 ≤ k → kindTest a k (typeAt a p) (parAt a p) (memAt a p) (argAt a p 0) (argAt a p 1) (argAt a p 2) ≡ true
+  node-test h = tested a (node k (typeAt a p) (parAt a p) (memAt a p)) (good-kind w p k e h)
+
+  pub core-test : 100 ≤ k → k ≤ 129 → coreTest a k (typeAt a p) (parAt a p) (length (memAt a p)) (argAt a p 0) (argAt a p 1) (argAt a p 2) ≡ true
+  unfolding kindTest
+  core-test h j = rw (lt-leb k 15 (omega arith), lt-leb k 99 h, le-leb k 129 j, kindTest) at (node-test (omega arith))
+
+  pub bv-test : 130 ≤ k → k ≤ 149 → bvTest a k (typeAt a p) (parAt a p) (length (memAt a p)) (argAt a p 0) (argAt a p 1) ≡ true
+  unfolding kindTest
+  bv-test h j = rw (lt-leb k 15 (omega arith), lt-leb k 99 (omega arith), lt-leb k 129 h, le-leb k 149 j, kindTest) at (node-test (omega arith))
+
+  pub data-test : 150 ≤ k → dataTest a k (typeAt a p) (parAt a p) (length (memAt a p)) (argAt a p 0) (argAt a p 1) ≡ true
+  unfolding kindTest
+  data-test h = rw (lt-leb k 15 (omega arith), lt-leb k 99 (omega arith), lt-leb k 129 (omega arith), lt-leb k 149 h, kindTest) at (node-test (omega arith))
+
+  -- member i of an application is a term
+  pub operand : 22 ≤ k → (i : ℕ) → i < length (memAt a p) → isTerm a (argAt a p i) ≡ true
+  operand h i l =
+      let n = node k (typeAt a p) (parAt a p) (memAt a p) in
+      let ts = placed-term a n (omega arith) (good-kind w p k e (omega arith)) .1 in
+      all-get (isTerm a) (memAt a p) (subst (λ (r : List ℕ). all (isTerm a) r ≡ true) (args-plain n (λ z. omega arith) (λ z. omega arith)) ts) i l
