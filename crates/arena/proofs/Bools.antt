@@ -41,6 +41,16 @@ pub or-false-r : (b c : Bool) → (b || c) ≡ false → c ≡ false
 or-false-r true c e = t≢f e
 or-false-r false c e = e
 
+-- where b decides d
+pub or-and-in : (b c d : Bool) → (b ≡ true → d ≡ true) → (b || c && d) ≡ ((b || c) && d)
+or-and-in true c d h = sym (h refl)
+or-and-in false c d h = refl
+
+pub or-and-out : (b c d : Bool) → (b ≡ true → d ≡ false) → (c && d) ≡ ((b || c) && d)
+or-and-out true true d h = refl
+or-and-out true false d h = sym (h refl)
+or-and-out false c d h = refl
+
 -- two tests that follow from each other are one
 pub both-ways : (a b : Bool) → (a ≡ true → b ≡ true) → (b ≡ true → a ≡ true) → a ≡ b
 both-ways true b f g = sym (f refl)

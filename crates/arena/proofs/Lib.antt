@@ -23,3 +23,6 @@ pub mod Rising
 pub mod Fields
 pub mod Canon
 pub mod Known
+pub mod Built
+pub mod TypeCanon
+pub mod LitSets

@@ -8,7 +8,7 @@ use mathlib.Core.List.{List, [], _∷_}
 use lib.ListN.{length}
 use lib.Dec.{eqb, leb, ltb}
 use borrow.Author.Tests.{ne-eqb, eqb-true, eqb-false, leb-true, leb-false, lt-ltb, ltb-true, ltb-false}
-use Rattle.arena.specs.Lists.{all, any, mem?, rising, insert, sorted}
+use Rattle.arena.specs.Lists.{all, any, mem?, rising, insert, sorted, common}
 use Rattle.arena.proofs.Bools.{t≢f, and-l, and-r, by-cases}
 use Rattle.arena.proofs.Runs.{all-at, all-cons, all-imp, mem-here, mem-there, mem-cases}
 
@@ -73,10 +73,10 @@ all-rise x (y ∷ r) e h = rw (and-l (ltb x y) _ e) h
 
 -- ---- the members of a list as a rising run
 
-pub insert-mem? : (z x : ℕ) (r : List ℕ) → mem? z (insert x r) ≡ (eqb z x || mem? z r)
+pub insert-any : (g : ℕ → Bool) (x : ℕ) (r : List ℕ) → any g (insert x r) ≡ (g x || any g r)
 unfolding insert any
-insert-mem? z x [] = refl
-insert-mem? z x (y ∷ r) = go (ltb x y) (eqb x y) refl (insert-mem? z x r)
+insert-any g x [] = refl
+insert-any g x (y ∷ r) = go (ltb x y) (eqb x y) refl (insert-any g x r)
   where
     twice : (a b : Bool) → (a || b) ≡ (a || (a || b))
     twice true b = refl
@@ -87,11 +87,11 @@ insert-mem? z x (y ∷ r) = go (ltb x y) (eqb x y) refl (insert-mem? z x r)
     swap true false c = refl
     swap false b c = refl
 
-    go : (l e : Bool) → eqb x y ≡ e → mem? z (insert x r) ≡ (eqb z x || mem? z r)
-        → mem? z (cond l (x ∷ y ∷ r) (cond e (y ∷ r) (y ∷ insert x r))) ≡ (eqb z x || (eqb z y || mem? z r))
+    go : (l e : Bool) → eqb x y ≡ e → any g (insert x r) ≡ (g x || any g r)
+        → any g (cond l (x ∷ y ∷ r) (cond e (y ∷ r) (y ∷ insert x r))) ≡ (g x || (g y || any g r))
     go true e q ih = refl
-    go false true q ih = rw (eqb-true x y q) (twice (eqb z y) (mem? z r))
-    go false false q ih = rw ih (swap (eqb z y) (eqb z x) (mem? z r))
+    go false true q ih = rw (eqb-true x y q) (twice (g y) (any g r))
+    go false false q ih = rw ih (swap (g y) (g x) (any g r))
 
 pub insert-all? : (f : ℕ → Bool) (x : ℕ) (r : List ℕ) → f x ≡ true → all f r ≡ true → all f (insert x r) ≡ true
 unfolding insert
@@ -120,10 +120,11 @@ insert-length x (y ∷ r) =
     (λ q. by-cases (λ (l : List ℕ). length l ≤ suc (suc (length r))) (eqb x y) (y ∷ r) (y ∷ insert x r) (λ p. omega arith)
     (λ p. let h = insert-length x r in omega arith))
 
-pub sorted-mem : (z : ℕ) (r : List ℕ) → mem? z (sorted r) ≡ mem? z r
+-- the same members
+pub sorted-any : (g : ℕ → Bool) (r : List ℕ) → any g (sorted r) ≡ any g r
 unfolding sorted any
-sorted-mem z [] = refl
-sorted-mem z (x ∷ r) = insert-mem? z x (sorted r) ∙ ap (λ (b : Bool). eqb z x || b) (sorted-mem z r)
+sorted-any g [] = refl
+sorted-any g (x ∷ r) = insert-any g x (sorted r) ∙ ap (λ (b : Bool). g x || b) (sorted-any g r)
 
 pub sorted-all : (f : ℕ → Bool) (r : List ℕ) → all f r ≡ true → all f (sorted r) ≡ true
 unfolding sorted
@@ -139,3 +140,28 @@ pub sorted-length : (r : List ℕ) → length (sorted r) ≤ length r
 unfolding sorted
 sorted-length [] = omega arith
 sorted-length (x ∷ r) = let h = insert-length x (sorted r) in let k = sorted-length r in omega arith
+
+-- ---- a part of a run rises, is no longer, and passes the same tests
+
+pub common-all : (f : ℕ → Bool) (r s : List ℕ) → all f r ≡ true → all f (common r s) ≡ true
+unfolding common
+common-all f [] s e = e
+common-all f (x ∷ r) s e =
+    let w = all-at f x r e in
+    by-cases (λ (l : List ℕ). all f l ≡ true) (mem? x s) (x ∷ common r s) (common r s)
+    (λ q. all-cons f x (common r s) (w .0) (common-all f r s (w .1))) (λ q. common-all f r s (w .1))
+
+pub common-length : (r s : List ℕ) → length (common r s) ≤ length r
+unfolding common
+common-length [] s = omega arith
+common-length (x ∷ r) s =
+    let h = common-length r s in
+    by-cases (λ (l : List ℕ). length l ≤ suc (length r)) (mem? x s) (x ∷ common r s) (common r s) (λ q. omega arith) (λ q. omega arith)
+
+pub common-rising : (r s : List ℕ) → rising r ≡ true → rising (common r s) ≡ true
+unfolding common
+common-rising [] s e = e
+common-rising (x ∷ r) s e =
+    by-cases (λ (l : List ℕ). rising l ≡ true) (mem? x s) (x ∷ common r s) (common r s)
+    (λ q. all-rise x (common r s) (common-all (λ y. ltb x y) r s (rise-all x r e)) (common-rising r s (rise-tail x r e)))
+    (λ q. common-rising r s (rise-tail x r e))

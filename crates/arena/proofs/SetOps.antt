@@ -6,19 +6,9 @@ use mathlib.Core.Logic.{_⊎_, inl, inr}
 use mathlib.Core.List.{List, [], _∷_, map}
 use Rattle.arena.specs.Lists.{all, any}
 use Rattle.arena.specs.Values.{Value, Values, vnil, vcons, eqV, ltV, risingV, setV, memV, subsetV, interV, allV}
-use Rattle.arena.proofs.Bools.{t≢f, and-l, and-r, or-right, or-cases, by-cases}
+use Rattle.arena.proofs.Bools.{t≢f, and-l, and-r, or-right, or-cases, or-and-in, or-and-out, by-cases}
 use Rattle.arena.proofs.Runs.{all-at}
 use Rattle.arena.proofs.Sets.{eqV-eq, eqV-refl, allV-and, allV-head, allV-tail, rising-tail, rising-above, rising-cons, insert-all, insert-rising, insert-mem, set-ext}
-
--- what of a set is in another, or is not
-pick : (b c d : Bool) → (b ≡ true → d ≡ true) → (b || c && d) ≡ ((b || c) && d)
-pick true c d h = sym (h refl)
-pick false c d h = refl
-
-drop-one : (b c d : Bool) → (b ≡ true → d ≡ false) → (c && d) ≡ ((b || c) && d)
-drop-one true true d h = refl
-drop-one true false d h = sym (h refl)
-drop-one false c d h = refl
 
 -- ---- intersection
 
@@ -31,8 +21,8 @@ inter-mem u (vcons v r) t = go (memV v t) refl (inter-mem u r t)
     same b q e = ap (λ (z : Value). memV z t) (eqV-eq u v e) ∙ q
 
     go : (b : Bool) → memV v t ≡ b → memV u (interV r t) ≡ (memV u r && memV u t) → memV u (cond b (vcons v (interV r t)) (interV r t)) ≡ ((eqV u v || memV u r) && memV u t)
-    go true q ih = ap (λ (x : Bool). eqV u v || x) ih ∙ pick (eqV u v) (memV u r) (memV u t) (same true q)
-    go false q ih = ih ∙ drop-one (eqV u v) (memV u r) (memV u t) (same false q)
+    go true q ih = ap (λ (x : Bool). eqV u v || x) ih ∙ or-and-in (eqV u v) (memV u r) (memV u t) (same true q)
+    go false q ih = ih ∙ or-and-out (eqV u v) (memV u r) (memV u t) (same false q)
 
 pub inter-all : (f : Value → Bool) (s t : Values) → allV f s ≡ true → allV f (interV s t) ≡ true
 unfolding interV
