@@ -4,3 +4,4 @@ pub mod Core
 pub mod Bitvectors
 pub mod SetSteps
 pub mod Helpers
+pub mod Meanings

@@ -1,0 +1,6 @@
+-- The laws of the operations, one family to a file, each cited and none repeated.
+pub mod Law
+pub mod Made
+pub mod Logic
+pub mod Equal
+pub mod Choice

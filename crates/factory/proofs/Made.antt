@@ -1,0 +1,103 @@
+-- The laws of the makers of one node: 10 bool literal, 11 bitvec literal, 12 None, 13 Some, 16 variable; and of 26, uninterpreted application.
+use mathlib.Core.Path.{_≡_, refl, sym, ap, _∙_, subst}
+use Prim.Native.Nat.{ℕ, _^_, _<_}
+use native.Mathlib.Omega.{arith}
+use mathlib.Core.Bool.{Bool, true, false, not}
+use mathlib.Core.List.{List, [], _∷_}
+use lib.ListN.{getD}
+use Rattle.arena.specs.Lists.{all}
+use Rattle.arena.specs.Nodes.{Node, node, Nodes, kindAt, typeAt, parAt, argAt, args, keys, put, Out, out}
+use Rattle.arena.specs.Walks.{litNode, isLit}
+use Rattle.arena.specs.WellFormed.{small, isType, isTerm}
+use Rattle.arena.specs.Values.{Ty, tbool, topt, Value, bool}
+use Rattle.arena.specs.Meaning.{tyOf, tyAt, Interp, Good, makerMeans, coreMeans, term, meanNode, meaning}
+use Rattle.arena.proofs.Ext.{Ext, ty-ext}
+use Rattle.arena.proofs.Chain.{WF, type-below}
+use Rattle.arena.proofs.View.{Tm, Is, is-opt, is-lit, is-none, is-some, is-var, is-uf}
+use Rattle.arena.proofs.Types.{ty-opt}
+use Rattle.arena.proofs.Base.{tm-ext, false-tm, true-tm, false-means, true-means, false-lit, true-lit}
+use Rattle.arena.proofs.Known.{Lit}
+use Rattle.arena.proofs.Built.{type-added}
+use Rattle.factory.specs.Makers.{boolAt, optionType, bitvecLit, variable, noneOf, someOf}
+use Rattle.factory.specs.Core.{uninterpreted}
+use Rattle.factory.specs.Meanings.{means10, means11, means12, means13, means16, means26}
+use Rattle.factory.proofs.Law.{Typed, typed-type, tm-bool, mean-old, lit-old, Law, stay, added, applied, reads, onward}
+
+-- ---- 10 bool literal: one of the two that stand in every arena
+
+module _ {a : Nodes} (w : WF a) where
+  pub bool-at-tm : (b : Bool) → Tm a 0 (boolAt b)
+  bool-at-tm true = true-tm w
+  bool-at-tm false = false-tm w
+
+  pub bool-at-means : (I : Interp) (b : Bool) → meaning I a (boolAt b) ≡ bool b
+  bool-at-means I true = true-means I w
+  bool-at-means I false = false-means I w
+
+  pub bool-at-lit : (b : Bool) → Lit a (boolAt b)
+  bool-at-lit true = true-lit w
+  bool-at-lit false = false-lit w
+
+  -- a literal as the answer
+  pub says : {L : Type 0} {v : Interp → Value} (b : Bool) → ((I : Interp) → Good I → bool b ≡ v I) → Law a L tbool v (out a (boolAt b))
+  says b h = stay (boolAt b) w (tm-bool w (bool-at-tm b)) (λ I G. bool-at-means I b ∙ h I G) (λ l. bool-at-lit b)
+
+  pub bool-law : {L : Type 0} (b : Bool) → Law a L tbool (λ I. means10 b) (out a (boolAt b))
+  bool-law b = says b (λ I G. refl)
+
+  -- ---- 11 bitvec literal, 16 variable, 26 uninterpreted application: one node of a type that stands
+
+  pub bitvec-law : {L : Type 0} {y : Ty} (t n : ℕ) → tyOf a t ≡ y → kindAt a t ≡ 2 → n < 2 ^ parAt a t → Law a L y (λ I. means11 n) (bitvecLit a t n)
+  unfolding meanNode term makerMeans litNode
+  bitvec-law t n e h l = added (node 17 t n []) w (omega arith) (is-lit t n h l) e (λ x. refl)
+
+  pub variable-law : (id t : ℕ) → small id ≡ true → isType a t ≡ true → Law a ⊥ (tyOf a t) (λ I. means16 I id (tyOf a t)) (variable a id t)
+  unfolding meanNode term makerMeans
+  variable-law id t s h = applied (node 22 t id []) w (omega arith) (is-var t id h s) refl (λ x. x)
+
+  pub uninterpreted-law : (id t x : ℕ) → small id ≡ true → isType a t ≡ true → isTerm a x ≡ true
+      → Law a ⊥ (tyOf a t) (λ I. means26 I id (tyAt a x) (tyOf a t) (meaning I a x)) (uninterpreted a id t x)
+  unfolding uninterpreted meanNode term coreMeans args
+  uninterpreted-law id t x s h m = applied (node 126 t id (x ∷ [])) w (omega arith) (is-uf t id x h s m) refl (λ x. x)
+
+  -- ---- 12 None, 13 Some: their Option type is found or added first
+
+  -- the Option of the type at e
+  record OptionMade (e : ℕ) (o : Out) : Type 0 where
+    o-ext : Ext a (o .arena)
+    o-wf : WF (o .arena)
+    o-kind : kindAt (o .arena) (o .at) ≡ 3
+    o-elem : argAt (o .arena) (o .at) 0 ≡ e
+    o-type : tyOf (o .arena) (o .at) ≡ topt (tyOf a e)
+
+  option-made : (e : ℕ) → isType a e ≡ true → OptionMade e (optionType a e)
+  option-made e h =
+      let p = type-added (node 3 0 0 (e ∷ [])) w (omega arith) (is-opt e h) in
+      let k = ap (λ (m : Node). m .kind) (p .there) in
+      let x = ap (λ (m : Node). getD (m .mem) 0 0) (p .there) in
+      let o = optionType a e in
+      record {
+        o-ext = p .ext;
+        o-wf = p .wf;
+        o-kind = k;
+        o-elem = x;
+        o-type = ty-opt (p .wf .chain) (o .at) k ∙ ap (λ (z : ℕ). topt (tyOf (o .arena) z)) x ∙ ap topt (ty-ext (p .ext) e (type-below a e h));
+      }
+
+  pub none-law : {L : Type 0} {y : Ty} (e : ℕ) → isType a e ≡ true → tyOf a e ≡ y → Law a L (topt y) (λ I. means12) (noneOf a e)
+  unfolding noneOf meanNode term makerMeans litNode
+  none-law e h q =
+      let p = option-made e h in
+      let s = optionType a e .at in
+      onward (p .o-ext) (added (node 18 s 0 []) (p .o-wf) (omega arith) (is-none s (p .o-kind)) (p .o-type ∙ ap topt q) (λ x. refl))
+
+  pub some-law : {y : Ty} (t : ℕ) → Typed a y t → Law a (Lit a t) (topt y) (λ I. means13 (meaning I a t)) (someOf a t)
+  unfolding someOf meanNode term makerMeans args litNode all
+  some-law t m =
+      let p = option-made (typeAt a t) (typed-type w m) in
+      let b = optionType a (typeAt a t) .arena in
+      let s = optionType a (typeAt a t) .at in
+      let k : Tm b (argAt b s 0) t = subst (λ (z : ℕ). Tm b z t) (sym (p .o-elem)) (tm-ext (p .o-ext) (record { isterm = m .isterm; typed = refl })) in
+      onward (p .o-ext)
+      (reads (added (node 19 s 0 (t ∷ [])) (p .o-wf) (omega arith) (is-some s t (p .o-kind) k) (p .o-type ∙ ap topt (m .typed)) (λ x. rw x))
+      (lit-old (p .o-ext) m) (λ I G. ap means13 (mean-old (p .o-ext) m I)))
