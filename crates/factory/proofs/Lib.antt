@@ -4,3 +4,5 @@ pub mod Made
 pub mod Logic
 pub mod Equal
 pub mod Choice
+pub mod Options
+pub mod Guards
