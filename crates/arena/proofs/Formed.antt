@@ -14,9 +14,9 @@ use Rattle.arena.specs.Nodes.{Node, node, Nodes, mark, over, nodeAt, arg
 use Rattle.arena.specs.Cells.{cells, parse, used}
 use Rattle.arena.specs.WellFormed.{placed, typeTest, makerTest, kindTest, goodNode, isFresh, startsFresh, goodNodes, absent, distinct, wellFormed, filled, formed, Below, IsArena}
 use Rattle.arena.specs.Values.{fits}
-use Rattle.arena.proofs.Bools.{t≢f, or-right, or-cases, every-all, all-every}
+use Rattle.arena.proofs.Bools.{t≢f, or-right, or-cases, both-ways, every-all, all-every}
 use Rattle.arena.proofs.Ext.{Ext, ext-same, ext-more, mark-fresh, mark-ext}
-use Rattle.arena.proofs.Chain.{Chain, nil, link, WF}
+use Rattle.arena.proofs.Chain.{Chain, nil, link, WF, link-is}
 use Rattle.arena.proofs.Put.{same-node}
 use Rattle.arena.proofs.Flat.{length-cells, cells-parse}
 
@@ -152,3 +152,10 @@ not-formed c m f = go (formed c m) refl
     go : (b : Bool) → formed c m ≡ b → false ≡ formed c m
     go false e = sym e
     go true e = absurd (f (formed-arena c m e))
+
+-- with one node more
+pub next-formed : {a : Nodes} → WF a → (n : Node) → wellFormed (n ∷ a) ≡ every (goodNode a n ∷ absent a n ∷ [])
+next-formed {a} w n =
+    both-ways (wellFormed (n ∷ a)) (every (goodNode a n ∷ absent a n ∷ []))
+    (λ h. let l = link-is (test-wf (n ∷ a) h .chain) in all-every _ (l .0, (none-absent a n (l .1), tt)))
+    (λ h. let v = every-all _ h in wf-test (record { base = ext-more n (w .base); chain = link (w .chain) (v .0) (absent-none a n (v .1 .0)) }))

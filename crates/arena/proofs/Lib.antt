@@ -26,3 +26,6 @@ pub mod Known
 pub mod Built
 pub mod TypeCanon
 pub mod LitSets
+pub mod Examples
+pub mod Steps
+pub mod Stretch

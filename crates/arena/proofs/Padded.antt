@@ -11,12 +11,13 @@ use borrow.Author.Tests.{eqb-true}
 use Rattle.arena.specs.Lists.{all}
 use Rattle.arena.specs.Nodes.{Node, Nodes, size, mark}
 use Rattle.arena.specs.Cells.{cellsOf, cells, padded, parse, used}
-use Rattle.arena.specs.WellFormed.{clear, IsArena}
+use Rattle.arena.specs.WellFormed.{wellFormed, clear, formed, IsArena}
+use Rattle.arena.proofs.Bools.{both-ways}
 use Rattle.arena.proofs.Runs.{all-at}
 use Rattle.arena.proofs.Ext.{mark-cons}
 use Rattle.arena.proofs.Chain.{WF}
 use Rattle.arena.proofs.Flat.{length-cells, parse-cells}
-use Rattle.arena.proofs.Formed.{used-is, cells-are, mark-is, below-of}
+use Rattle.arena.proofs.Formed.{test-wf, used-is, cells-are, mark-is, below-of, formed-arena, arena-formed}
 
 zero-list : (l : List ℕ) → all (λ x. eqb x 0) l ≡ true → l ≡ replicate (length l) 0
 zero-list [] e = refl
@@ -83,3 +84,10 @@ module _ {c : List ℕ} {m : ℕ} (A : IsArena c m) (n : Node) (f : m + size n �
   added-cells =
       sym (append-assoc (take m c) (cellsOf n) (drop (m + size n) c))
       ∙ ap₂ (λ (l r : List ℕ). (l ++ cellsOf n) ++ r) (sym (cells-are (A .below))) rest
+
+-- the test on padded cells is the test on the arena
+pub padded-formed : (n : ℕ) (a : Nodes) → mark a ≤ n → n ≤ 65536 → formed (padded n a) (mark a) ≡ wellFormed a
+padded-formed n a f h =
+    both-ways (formed (padded n a) (mark a)) (wellFormed a)
+    (λ e. sym (ap wellFormed (padded-used n a f)) ∙ formed-arena (padded n a) (mark a) e .below .well)
+    (λ e. arena-formed (padded n a) (mark a) (padded-arena n a f (test-wf a e) h))

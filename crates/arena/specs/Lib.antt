@@ -6,3 +6,4 @@ pub mod Walks
 pub mod WellFormed
 pub mod Values
 pub mod Meaning
+pub mod Did

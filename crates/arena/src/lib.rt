@@ -1,5 +1,7 @@
 // The arena: nodes in lent cells. A position of a term and one of a type are two types, so neither passes for the other.
 
+pub mod cursor;
+
 // Where a term's node starts.
 pub struct TermPos(pub u64);
 
