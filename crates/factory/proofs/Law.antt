@@ -7,6 +7,7 @@ use Rattle.arena.specs.Walks.{litNode, isLit}
 use Rattle.arena.specs.WellFormed.{isType, isTerm}
 use Rattle.arena.specs.Values.{Ty, tbool, tbv, topt, tset, Value}
 use Rattle.arena.specs.Meaning.{tyOf, tyAt, Interp, Good, meanNode, meaning}
+pub use Rattle.factory.specs.Fit.{Typed}
 use Rattle.arena.proofs.Bools.{by-cases}
 use Rattle.arena.proofs.Ext.{Ext, ext-same, ext-trans, ty-ext, meaning-ext, lit-ext}
 use Rattle.arena.proofs.Chain.{WF, type-below, term-below, term-ext, term-type, placed-term, tyAt-ext}
@@ -19,11 +20,6 @@ use Rattle.arena.proofs.Known.{Lit}
 use Rattle.arena.proofs.Built.{added as node-added}
 
 -- ---- terms by the structure of their type
-
--- x is the start of a term of the type y
-pub record Typed (a : Nodes) (y : Ty) (x : ℕ) : Type 0 where
-  pub isterm : isTerm a x ≡ true
-  pub typed : tyAt a x ≡ y
 
 pub typed-self : {a : Nodes} (x : ℕ) → isTerm a x ≡ true → Typed a (tyAt a x) x
 typed-self x h = record { isterm = h; typed = refl }

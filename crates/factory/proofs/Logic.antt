@@ -18,7 +18,7 @@ use Rattle.arena.proofs.Types.{ty-bool}
 use Rattle.arena.proofs.Sound.{bool-at}
 use Rattle.arena.proofs.Known.{Lit, B, not-node, no-lit}
 use Rattle.factory.specs.Makers.{boolAt, app}
-use Rattle.factory.specs.Core.{notT, opposites, andT, orT, implies}
+use Rattle.factory.specs.Core.{notT, opposites, junction, andT, orT, implies}
 use Rattle.factory.specs.Meanings.{means20, means21, means22, means23}
 use Rattle.factory.proofs.Law.{Typed, bool-tm, tm-bool, typed-ext, mean-old, lit-old, Law, stay, applied, reads, onward, law-if}
 use Rattle.factory.proofs.Made.{bool-at-means, says}
@@ -96,7 +96,7 @@ module _ {b : Bool} {f : Bool → Bool → Bool} (C : Connective b f) {a : Nodes
       (λ e3. k (λ l. neither w b t m e2 (or-false-l _ _ e3) (l .0)))))
 
 pub and-law : {a : Nodes} → WF a → (t u : ℕ) → Typed a tbool t → Typed a tbool u → Law a (Lit a t × Lit a u) tbool (λ I. means21 (meaning I a t) (meaning I a u)) (andT a t u)
-unfolding andT meanNode term coreMeans args
+unfolding andT junction meanNode term coreMeans args
 and-law {a} w t u m n =
     connective-law and w t u m n 21 (λ l. applied (node 121 0 0 (t ∷ u ∷ [])) w (omega arith) (is-and t u (bool-tm w m) (bool-tm w n)) (ty-bool (w .base)) l)
   where
@@ -104,7 +104,7 @@ and-law {a} w t u m n =
     and = record { idem = and-self; unit-l = λ x. refl; unit-r = and-true; zero-l = λ x. refl; zero-r = and-false; excluded = and-not-self }
 
 pub or-law : {a : Nodes} → WF a → (t u : ℕ) → Typed a tbool t → Typed a tbool u → Law a (Lit a t × Lit a u) tbool (λ I. means22 (meaning I a t) (meaning I a u)) (orT a t u)
-unfolding orT meanNode term coreMeans args
+unfolding orT junction meanNode term coreMeans args
 or-law {a} w t u m n =
     connective-law or w t u m n 22 (λ l. applied (node 122 0 0 (t ∷ u ∷ [])) w (omega arith) (is-or t u (bool-tm w m) (bool-tm w n)) (ty-bool (w .base)) l)
   where

@@ -19,17 +19,18 @@ unfoldable pub opposites : Nodes → ℕ → ℕ → Bool
 opposites a t u =
     cond (eqb (kindAt a u) 120) (eqb t (argAt a u 0)) (cond (eqb (kindAt a t) 120) (eqb (argAt a t 0) u) false)
 
+-- what `and` and `or` share: `unit` adds nothing, `zero` decides
+unfoldable pub junction : ℕ → ℕ → ℕ → Nodes → ℕ → ℕ → Out
+junction op unit zero a t u =
+    cond (eqb t u || eqb u unit) (out a t)
+    (cond (eqb t unit) (out a u)
+    (cond (eqb t zero || (eqb u zero || opposites a t u)) (out a zero) (app a op 0 (t ∷ u ∷ []))))
+
 unfoldable pub andT : Nodes → ℕ → ℕ → Out
-andT a t u =
-    cond (eqb t u || eqb u T) (out a t)
-    (cond (eqb t T) (out a u)
-    (cond (eqb t F || (eqb u F || opposites a t u)) (out a F) (app a 21 0 (t ∷ u ∷ []))))
+andT a t u = junction 21 T F a t u
 
 unfoldable pub orT : Nodes → ℕ → ℕ → Out
-orT a t u =
-    cond (eqb t u || eqb u F) (out a t)
-    (cond (eqb t F) (out a u)
-    (cond (eqb t T || (eqb u T || opposites a t u)) (out a T) (app a 22 0 (t ∷ u ∷ []))))
+orT a t u = junction 22 F T a t u
 
 unfoldable pub implies : Nodes → ℕ → ℕ → Out
 implies a t u = notT a t ⨟ λ b n. orT b n u
