@@ -7,5 +7,7 @@ pub mod Logic
 pub mod Equal
 pub mod Choice
 pub mod Bits
+pub mod SetLaws
+pub mod Records
 pub mod Options
 pub mod Guards
