@@ -8,7 +8,7 @@ use Rattle.bitvec.specs.Theory.{nat2bv, extract, concat, allOnes, bvnot, bvneg,
 use Rattle.bitvec.specs.Logic.{top, byTops, bvsub, bvsdiv, bvsrem, bvabs, bvsmodOf, bvsmod, bvule, byTop, bvslt, bvsle, zeroExtend}
 use Rattle.bitvec.specs.Overflow.{bv2int, outside, bvnego, bvsaddo, bvssubo, bvsmulo}
 use Rattle.bitvec.specs.Numbered.{bvappOf, bvcmpOf, bvsoOf}
-use Rattle.arena.specs.Lists.{every, all, any, sameList, evens, odds, field, fieldD, holdsField, rising, insert, sorted, putField, fieldsOf}
+use Rattle.arena.specs.Lists.{every, all, any, sameList, evens, odds, field, fieldD, holdsField, rising, insert, sorted, common, putField, fieldsOf}
 use Rattle.arena.specs.Nodes.{Node, node, Nodes, fresh, mark, over, nodeAt, args, keys, fieldTypes, same, find, putFound, put}
 use Rattle.arena.specs.Cells.{cells, parseOn, parse, used, nodeHere}
 use Rattle.arena.specs.Walks.{litNode, isLit, setNode, hasSet}
@@ -16,7 +16,7 @@ use Rattle.arena.specs.WellFormed.{fieldRun, placed, typeTest, makerTest, coreT
 use Rattle.factory.specs.Makers.{noneOf, someOf, setOf, recordOf}
 use Rattle.factory.specs.Core.{notT, opposites, andT, orT, implies, eqSimplify, eqT, iteSimplify, iteT, uninterpreted}
 use Rattle.factory.specs.Bitvectors.{bvnegT, bvappT, bvcmpT, bvnegoT, bvsoT, zeroExtendT}
-use Rattle.factory.specs.SetSteps.{isNil, setMember, setSubset, common, setInter, setIsEmpty, setIntersects, optionGet, recordGet}
+use Rattle.factory.specs.SetSteps.{isNil, setMember, setSubset, setInter, setIsEmpty, setIntersects, optionGet, recordGet}
 use Rattle.factory.specs.Helpers.{eqNone, isNoneIte, isNone, isSome, ifFalse, ifTrue, guarded, ifSome, anyNoneOn, anyNone, ifAllSome}
 use Rattle.compiler.specs.Compiler.{compiledNot, compiledNeg, compiledIsEmpty, getFields, compiledRecord, compiledHasAttr, compiledGetAttr}
 use Rattle.call.specs.Table.{table, rowOf}

@@ -12,9 +12,9 @@ use Rattle.arena.specs.Walks.{isLit}
 use Rattle.arena.specs.WellFormed.{isTerm, sortIs}
 use Rattle.arena.specs.Values.{Ty, tbool, tbv, topt, tset, trec, Value, bool, vnone, vsome, asBool}
 use Rattle.arena.specs.Meaning.{tyOf, tyAt, Interp, Good, meaning}
-use Rattle.arena.proofs.Runs.{all-at, map-agree, all-agree, all-imp, all-imp2}
-use Rattle.arena.proofs.Ext.{Ext, ext-trans, meaning-ext, lit-ext}
-use Rattle.arena.proofs.Chain.{WF, term-below, term-ext}
+use Rattle.arena.proofs.Runs.{all-at}
+use Rattle.arena.proofs.Ext.{Ext, ext-trans}
+use Rattle.arena.proofs.Chain.{WF}
 use Rattle.arena.proofs.Types.{ty-opt}
 use Rattle.arena.proofs.Whole.{elem-type}
 use Rattle.arena.proofs.TypeCanon.{tyKind, ty-kind}
@@ -25,6 +25,7 @@ use Rattle.factory.specs.Core.{orT, iteT}
 use Rattle.factory.specs.Helpers.{isNone, ifFalse, ifTrue, isOption, guarded, ifSome, anyNoneOn, anyNone, ifAllSome}
 use Rattle.factory.specs.Meanings.{means25, isNoneV, anyNoneV, isOpt, optional, lifted, means62, means63, means64, means65, means66}
 use Rattle.factory.proofs.Law.{Typed, typed-type, tm-bool, opt-kind, opt-elem, typed-ext, mean-old, lit-old, Law, reads, onward, law-if}
+use Rattle.factory.proofs.Lists.{means-old, lits-old, terms-old}
 use Rattle.factory.proofs.Made.{bool-at-tm, none-law, some-law}
 use Rattle.factory.proofs.Logic.{holds, or-law}
 use Rattle.factory.proofs.Choice.{ite-law}
@@ -126,16 +127,6 @@ options {a} w (x ∷ r) p q =
     let p' = all-at (isTerm a) x r p in
     let q' = all-at (λ x. sortIs a x 3) x r q in
     (record { elem = tyOf a (elemAt a x); is = record { isterm = p' .0; typed = ty-opt (w .chain) (typeAt a x) (eqb-true _ _ (q' .0)) } }, options w r (p' .1) (q' .1))
-
-module _ {a b : Nodes} (e : Ext a b) where
-  pub means-old : (I : Interp) (r : List ℕ) → all (isTerm a) r ≡ true → map (meaning I b) r ≡ map (meaning I a) r
-  means-old I r p = map-agree (isTerm a) (meaning I b) (meaning I a) (λ x h. meaning-ext I e x (term-below a x h)) r p
-
-  pub lits-old : (r : List ℕ) → all (isTerm a) r ≡ true → all (isLit a) r ≡ true → all (isLit b) r ≡ true
-  lits-old r p l = all-agree (isTerm a) (isLit b) (isLit a) (λ x h. lit-ext e x (term-below a x h)) r p ∙ l
-
-  pub terms-old : (r : List ℕ) → all (isTerm a) r ≡ true → all (isTerm b) r ≡ true
-  terms-old r p = all-imp (isTerm a) (isTerm b) (λ x h. term-ext e x h) r p
 
 -- ---- any_none
 

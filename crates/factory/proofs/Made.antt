@@ -1,6 +1,6 @@
 -- The laws of the makers of one node: 10 bool literal, 11 bitvec literal, 12 None, 13 Some, 16 variable; and of 26, uninterpreted application.
 use mathlib.Core.Path.{_≡_, refl, sym, ap, _∙_, subst}
-use Prim.Native.Nat.{ℕ, _^_, _<_}
+use Prim.Native.Nat.{ℕ, _^_, _≤_, _<_}
 use native.Mathlib.Omega.{arith}
 use mathlib.Core.Bool.{Bool, true, false, not}
 use mathlib.Core.List.{List, [], _∷_}
@@ -62,42 +62,43 @@ module _ {a : Nodes} (w : WF a) where
 
   -- ---- 12 None, 13 Some: their Option type is found or added first
 
-  -- the Option of the type at e
-  record OptionMade (e : ℕ) (o : Out) : Type 0 where
-    o-ext : Ext a (o .arena)
-    o-wf : WF (o .arena)
-    o-kind : kindAt (o .arena) (o .at) ≡ 3
-    o-elem : argAt (o .arena) (o .at) 0 ≡ e
-    o-type : tyOf (o .arena) (o .at) ≡ topt (tyOf a e)
+  -- an Option or a Set of the type at e, found or added
+  pub record Holder (k e : ℕ) (o : Out) : Type 0 where
+    pub ext : Ext a (o .arena)
+    pub wf : WF (o .arena)
+    pub kind : kindAt (o .arena) (o .at) ≡ k
+    pub elem : argAt (o .arena) (o .at) 0 ≡ e
+    pub inner : tyOf (o .arena) (argAt (o .arena) (o .at) 0) ≡ tyOf a e
 
-  option-made : (e : ℕ) → isType a e ≡ true → OptionMade e (optionType a e)
-  option-made e h =
-      let p = type-added (node 3 0 0 (e ∷ [])) w (omega arith) (is-opt e h) in
-      let k = ap (λ (m : Node). m .kind) (p .there) in
+  pub holder : (k e : ℕ) → k ≤ 15 → isType a e ≡ true → Is a (node k 0 0 (e ∷ [])) → Holder k e (put a (node k 0 0 (e ∷ [])))
+  holder k e l h i =
+      let p = type-added (node k 0 0 (e ∷ [])) w l i in
       let x = ap (λ (m : Node). getD (m .mem) 0 0) (p .there) in
-      let o = optionType a e in
       record {
-        o-ext = p .ext;
-        o-wf = p .wf;
-        o-kind = k;
-        o-elem = x;
-        o-type = ty-opt (p .wf .chain) (o .at) k ∙ ap (λ (z : ℕ). topt (tyOf (o .arena) z)) x ∙ ap topt (ty-ext (p .ext) e (type-below a e h));
+        ext = p .ext;
+        wf = p .wf;
+        kind = ap (λ (m : Node). m .kind) (p .there);
+        elem = x;
+        inner = ap (tyOf (put a (node k 0 0 (e ∷ [])) .arena)) x ∙ ty-ext (p .ext) e (type-below a e h);
       }
+
+  option-type : (e : ℕ) (p : Holder 3 e (optionType a e)) → tyOf (optionType a e .arena) (optionType a e .at) ≡ topt (tyOf a e)
+  option-type e p = ty-opt (p .wf .chain) (optionType a e .at) (p .kind) ∙ ap topt (p .inner)
 
   pub none-law : {L : Type 0} {y : Ty} (e : ℕ) → isType a e ≡ true → tyOf a e ≡ y → Law a L (topt y) (λ I. means12) (noneOf a e)
   unfolding noneOf meanNode term makerMeans litNode
   none-law e h q =
-      let p = option-made e h in
+      let p = holder 3 e (omega arith) h (is-opt e h) in
       let s = optionType a e .at in
-      onward (p .o-ext) (added (node 18 s 0 []) (p .o-wf) (omega arith) (is-none s (p .o-kind)) (p .o-type ∙ ap topt q) (λ x. refl))
+      onward (p .ext) (added (node 18 s 0 []) (p .wf) (omega arith) (is-none s (p .kind)) (option-type e p ∙ ap topt q) (λ x. refl))
 
   pub some-law : {y : Ty} (t : ℕ) → Typed a y t → Law a (Lit a t) (topt y) (λ I. means13 (meaning I a t)) (someOf a t)
   unfolding someOf meanNode term makerMeans args litNode all
   some-law t m =
-      let p = option-made (typeAt a t) (typed-type w m) in
+      let p = holder 3 (typeAt a t) (omega arith) (typed-type w m) (is-opt (typeAt a t) (typed-type w m)) in
       let b = optionType a (typeAt a t) .arena in
       let s = optionType a (typeAt a t) .at in
-      let k : Tm b (argAt b s 0) t = subst (λ (z : ℕ). Tm b z t) (sym (p .o-elem)) (tm-ext (p .o-ext) (record { isterm = m .isterm; typed = refl })) in
-      onward (p .o-ext)
-      (reads (added (node 19 s 0 (t ∷ [])) (p .o-wf) (omega arith) (is-some s t (p .o-kind) k) (p .o-type ∙ ap topt (m .typed)) (λ x. rw x))
-      (lit-old (p .o-ext) m) (λ I G. ap means13 (mean-old (p .o-ext) m I)))
+      let k : Tm b (argAt b s 0) t = subst (λ (z : ℕ). Tm b z t) (sym (p .elem)) (tm-ext (p .ext) (record { isterm = m .isterm; typed = refl })) in
+      onward (p .ext)
+      (reads (added (node 19 s 0 (t ∷ [])) (p .wf) (omega arith) (is-some s t (p .kind) k) (option-type (typeAt a t) p ∙ ap topt (m .typed)) (λ x. rw x))
+      (lit-old (p .ext) m) (λ I G. ap means13 (mean-old (p .ext) m I)))

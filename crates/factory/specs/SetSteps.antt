@@ -3,7 +3,7 @@ use Prim.Native.Nat.{ℕ}
 use mathlib.Core.Bool.{Bool, true, false, cond, _&&_}
 use mathlib.Core.List.{List, [], _∷_}
 use lib.Dec.{eqb}
-use Rattle.arena.specs.Lists.{all, mem?, fieldD}
+use Rattle.arena.specs.Lists.{all, mem?, common, fieldD}
 use Rattle.arena.specs.Nodes.{F, T, node, Nodes, kindAt, typeAt, memAt, argAt, elemAt, put, Out, out, _⨟_}
 use Rattle.arena.specs.Walks.{isLit}
 use Rattle.factory.specs.Makers.{boolAt, app}
@@ -33,11 +33,6 @@ setSubset a s t =
     cond (eqb s t) (out a T)
     (cond (emptyAt a s) (out a T)
     (cond (bothSets a s t) (out a (boolAt (all (λ x. mem? x (memAt a t)) (memAt a s)))) (app a 51 0 (s ∷ t ∷ []))))
-
--- those of xs that are in ys
-unfoldable pub common : List ℕ → List ℕ → List ℕ
-common [] ys = []
-common (x ∷ xs) ys = cond (mem? x ys) (x ∷ common xs ys) (common xs ys)
 
 unfoldable pub setInter : Nodes → ℕ → ℕ → Out
 setInter a s t =
