@@ -29,3 +29,5 @@ pub mod LitSets
 pub mod Examples
 pub mod Steps
 pub mod Stretch
+pub mod Starts
+pub mod LentCells

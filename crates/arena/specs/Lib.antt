@@ -6,4 +6,5 @@ pub mod Walks
 pub mod WellFormed
 pub mod Values
 pub mod Meaning
+pub mod Lent
 pub mod Did

@@ -1,4 +1,5 @@
 // A node is looked for before it is added; a found one is reused, so equal nodes are one position.
+use crate::HEADER;
 use crate::TermPos;
 use crate::TypePos;
 ghost use mathlib.Core.Path.{_≡_};
@@ -12,9 +13,6 @@ ghost use Rattle.arena.specs.Nodes.{node, header, size, same, find as fi
 ghost use Rattle.arena.specs.Cells.{cellsOf, used, nodeHere, after};
 ghost use Rattle.arena.specs.WellFormed.{Below, IsArena, goodNode};
 ghost use Rattle.arena.specs.Did.{Did, putTyped, foundOr, termReply, typeReply, nodeReply};
-
-// The cells of a node before its members.
-pub const HEADER: usize = 4;
 
 // The cells below the mark are in use: the next node starts there.
 pub struct Cursor {
