@@ -4,5 +4,6 @@ pub mod Nodes
 pub mod Cells
 pub mod Walks
 pub mod WellFormed
+pub mod Lent
 pub mod Values
 pub mod Meaning
