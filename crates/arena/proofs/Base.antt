@@ -4,12 +4,12 @@ use Prim.Native.Nat.{ℕ}
 use native.Mathlib.Omega.{arith}
 use mathlib.Core.Bool.{true, false}
 use Rattle.arena.specs.Lists.{every}
-use Rattle.arena.specs.Nodes.{Node, Nodes, mark, over, nodeAt, args, keys, F, T}
-use Rattle.arena.specs.Walks.{litNode, isLit}
+use Rattle.arena.specs.Nodes.{Node, Nodes, mark, over, nodeAt, positions, keys, F, T}
+use Rattle.arena.specs.Walks.{ruled, walked, litRule, isLit}
 use Rattle.arena.specs.WellFormed.{isType}
 use Rattle.arena.specs.Values.{bool}
 use Rattle.arena.specs.Meaning.{Interp, makerMeans, term, meanNode, meaning}
-use Rattle.arena.proofs.Ext.{Ext, node-ext, meaning-ext, lit-ext}
+use Rattle.arena.proofs.Ext.{Ext, node-ext, meaning-ext, walked-ext}
 use Rattle.arena.proofs.Chain.{WF, term-below, type-ext, term-ext, term-type}
 use Rattle.arena.proofs.View.{Tm}
 
@@ -30,20 +30,20 @@ unfolding nodeAt over mark
 true-tm w = tm-ext (w .base) (record { isterm = refl; typed = refl })
 
 pub false-means : (I : Interp) {a : Nodes} → WF a → meaning I a F ≡ bool false
-unfolding meaning over mark meanNode term makerMeans args keys
+unfolding meaning over mark meanNode term makerMeans positions keys
 false-means I w = meaning-ext I (w .base) F (omega arith)
 
 pub true-means : (I : Interp) {a : Nodes} → WF a → meaning I a T ≡ bool true
-unfolding meaning over mark meanNode term makerMeans args keys
+unfolding meaning over mark meanNode term makerMeans positions keys
 true-means I w = meaning-ext I (w .base) T (omega arith)
 
 pub false-lit : {a : Nodes} → WF a → isLit a F ≡ true
-unfolding isLit over mark litNode
-false-lit w = lit-ext (w .base) F (omega arith)
+unfolding walked over mark ruled litRule
+false-lit w = walked-ext litRule (w .base) F (omega arith)
 
 pub true-lit : {a : Nodes} → WF a → isLit a T ≡ true
-unfolding isLit over mark litNode
-true-lit w = lit-ext (w .base) T (omega arith)
+unfolding walked over mark ruled litRule
+true-lit w = walked-ext litRule (w .base) T (omega arith)
 
 -- a term's type is a type
 pub tm-type : {a : Nodes} {t x : ℕ} → WF a → Tm a t x → isType a t ≡ true
@@ -53,4 +53,4 @@ pub mean-keep : (I : Interp) {a b : Nodes} {t x : ℕ} → Ext a b → Tm a t x 
 mean-keep I {a} {x = x} e m = meaning-ext I e x (term-below a x (m .isterm))
 
 pub lit-keep : {a b : Nodes} {t x : ℕ} → Ext a b → Tm a t x → isLit a x ≡ true → isLit b x ≡ true
-lit-keep {a} {x = x} e m l = lit-ext e x (term-below a x (m .isterm)) ∙ l
+lit-keep {a} {x = x} e m l = walked-ext litRule e x (term-below a x (m .isterm)) ∙ l

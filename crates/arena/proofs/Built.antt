@@ -5,13 +5,13 @@ use mathlib.Core.Bool.{Bool, true, false, cond}
 use lib.Dec.{leb}
 use borrow.Author.Tests.{le-leb}
 use Rattle.arena.specs.Nodes.{Node, Nodes, nodeAt, Out, out, put}
-use Rattle.arena.specs.Walks.{litNode, isLit}
+use Rattle.arena.specs.Walks.{ruled, litRule, isLit}
 use Rattle.arena.specs.WellFormed.{isType, isTerm}
 use Rattle.arena.specs.Values.{Value}
 use Rattle.arena.specs.Meaning.{Interp, Good, meanNode, meaning}
 use Rattle.arena.proofs.Bools.{by-cases}
 use Rattle.arena.proofs.Ext.{Ext, ext-same, ext-trans}
-use Rattle.arena.proofs.Chain.{WF, wf-ext, kind-type, placed-term, meanNode-ext, mean-at, litNode-ext, lit-at}
+use Rattle.arena.proofs.Chain.{WF, wf-ext, kind-type, meanNode-ext, mean-at, ruled-ext, lit-at}
 use Rattle.arena.proofs.View.{Tm, Is, good-pos}
 use Rattle.arena.proofs.Put.{put-law}
 use Rattle.arena.proofs.Whole.{good-is}
@@ -30,7 +30,7 @@ pub stay : {a : Nodes} {L : Type 0} {t : ℕ} {v : Interp → Value} (p : ℕ) �
 stay p w m h l = record { ext = ext-same; wf = w; tm = m; means = h; lit = l }
 
 -- a node found or added
-pub added : {a : Nodes} {L : Type 0} (n : Node) → WF a → 16 ≤ n .kind → Is a n → (L → litNode a (isLit a) n ≡ true)
+pub added : {a : Nodes} {L : Type 0} (n : Node) → WF a → 16 ≤ n .kind → Is a n → (L → ruled litRule a (isLit a) n ≡ true)
     → Law a L (n .type) (λ I. meanNode I a (meaning I a) n) (put a n)
 added {a} n w h i l =
     let g = good-is w i in
@@ -45,7 +45,7 @@ added {a} n w h i l =
       means = λ I G. mean-at I (p .chain) q k
           ∙ ap (λ (m : Node). meanNode I a' (meaning I a') m) (p .there)
           ∙ sym (meanNode-ext I n (w .chain) (p .ext) h g);
-      lit = λ x. lit-at (p .chain) q k ∙ ap (λ (m : Node). litNode a' (isLit a') m) (p .there) ∙ sym (litNode-ext n (p .ext) (placed-term a n h g .1)) ∙ l x;
+      lit = λ x. lit-at (p .chain) q k ∙ ap (λ (m : Node). ruled litRule a' (isLit a') m) (p .there) ∙ sym (ruled-ext litRule n (p .ext) g) ∙ l x;
     }
 
 -- the same with the meaning stated another way, or from other literals

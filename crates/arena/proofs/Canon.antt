@@ -6,22 +6,22 @@ use mathlib.Core.Bool.{Bool, true, false}
 use mathlib.Core.List.{List, [], _∷_, map}
 use lib.ListN.{length, getD}
 use lib.Dec.{eqb, leb, ltb}
-use borrow.Author.Tests.{eqb-true, eqb-false, leb-true, le-leb, lt-leb, ltb-true}
+use borrow.Author.Tests.{eqb-true, eqb-false, leb-true, leb-false, le-leb, lt-leb, ltb-true}
 use Rattle.arena.specs.Lists.{all, mem?, evens, odds}
-use Rattle.arena.specs.Nodes.{Node, node, Nodes, nodeAt, kindAt, typeAt, parAt, memAt, argAt, args, keys, fieldTypes}
-use Rattle.arena.specs.Walks.{litNode, isLit}
+use Rattle.arena.specs.Nodes.{Node, node, Nodes, nodeAt, kindAt, typeAt, parAt, memAt, argAt, positions, args, keys, fieldTypes}
+use Rattle.arena.specs.Walks.{ruled, litRule, isLit}
 use Rattle.arena.specs.WellFormed.{fieldRun, isTerm, makerTest}
 use Rattle.arena.specs.Values.{Value, bool, bits, vnone, vsome, vset, vrec, eqV, setV, memV, recV}
 use Rattle.arena.specs.Meaning.{Interp, makerMeans, term, meanNode, meaning}
-use Rattle.arena.proofs.Bools.{t≢f, every-all, branch, from}
+use Rattle.arena.proofs.Bools.{t≢f, every-all, from}
 use Rattle.arena.proofs.Runs.{mem0, mem1, mem-here, mem-there, all-mem, any-find, mem-any, same-list}
+use Rattle.arena.proofs.Rising.{In, rise-ext}
 use Rattle.arena.proofs.Ext.{node-kind}
-use Rattle.arena.proofs.Chain.{WF, term-kind, placed-term, args-below, mean-kind, lit-at}
+use Rattle.arena.proofs.Chain.{WF, term-kind, term-pos, placed-term, args-below, mean-kind, lit-at}
 use Rattle.arena.proofs.Put.{unique}
 use Rattle.arena.proofs.Whole.{good-kind, maker-test}
 use Rattle.arena.proofs.Sets.{eqV-eq, eqV-refl}
 use Rattle.arena.proofs.SetOps.{set-mem}
-use Rattle.arena.proofs.Rising.{In, rise-ext}
 
 -- the kind of literal that means a value
 unfoldable pub valKind : Value → ℕ
@@ -43,7 +43,7 @@ module _ (I : Interp) {a : Nodes} (w : WF a) where
   abbrev M : ℕ → Value
   M p = meaning I a p
 
-  pub record Lit (p : ℕ) : Type 0 where
+  pub record Literal (p : ℕ) : Type 0 where
     pub isterm : isTerm a p ≡ true
     pub islit : isLit a p ≡ true
 
@@ -51,28 +51,34 @@ module _ (I : Interp) {a : Nodes} (w : WF a) where
   abbrev N : ℕ → ℕ → Node
   N k p = node k (typeAt a p) (parAt a p) (memAt a p)
 
-  pub lit-kind : (p : ℕ) → Lit p → kindAt a p ≤ 21
-  unfolding litNode
-  lit-kind p l =
-      let e : litNode a (isLit a) (nodeAt a p) ≡ true = sym (lit-at (w .chain) p (l .isterm)) ∙ l .islit in
-      branch (leb (kindAt a p) 18) _ _ e (λ q h. let z = leb-true (kindAt a p) 18 q in omega arith)
-      (λ q h. branch (leb (kindAt a p) 21) _ false h (λ r g. leb-true (kindAt a p) 21 r) (λ r g. t≢f (sym g)))
+  pub lit-kind : (p : ℕ) → Literal p → kindAt a p ≤ 21
+  unfolding ruled litRule
+  lit-kind p l = go (leb (kindAt a p) 21) refl
+    where
+      e : ruled litRule a (isLit a) (nodeAt a p) ≡ true
+      e = sym (lit-at (w .chain) p (l .isterm)) ∙ l .islit
 
-  lit-args : (p k : ℕ) → kindAt a p ≡ k → 19 ≤ k → Lit p → all (isLit a) (args (N k p)) ≡ true
-  unfolding litNode
+      go : (b : Bool) → leb (kindAt a p) 21 ≡ b → kindAt a p ≤ 21
+      go true q = leb-true (kindAt a p) 21 q
+      go false q =
+          let h = leb-false (kindAt a p) 21 q in
+          t≢f (sym e ∙ rw (lt-leb (kindAt a p) 18 (omega arith), q))
+
+  lit-args : (p k : ℕ) → kindAt a p ≡ k → 19 ≤ k → Literal p → all (isLit a) (args (N k p)) ≡ true
+  unfolding ruled litRule
   lit-args p k e h l =
       let j = lit-kind p l in
-      let f : litNode a (isLit a) (N k p) ≡ true = sym (lit-at (w .chain) p (l .isterm) ∙ ap (λ (n : Node). litNode a (isLit a) n) (node-kind a p k e)) ∙ l .islit in
-      rw (lt-leb k 18 (omega arith), le-leb k 21 (omega arith), litNode) at f
+      let f : ruled litRule a (isLit a) (N k p) ≡ true = sym (lit-at (w .chain) p (l .isterm) ∙ ap (λ (n : Node). ruled litRule a (isLit a) n) (node-kind a p k e)) ∙ l .islit in
+      rw (lt-leb k 18 (omega arith), le-leb k 21 (omega arith), ruled) at f
 
   term-args : (p k : ℕ) → kindAt a p ≡ k → 16 ≤ k → all (isTerm a) (args (N k p)) ≡ true
   term-args p k e h = placed-term a (N k p) h (good-kind w p k e (omega arith)) .1
 
   low-args : (p k : ℕ) → kindAt a p ≡ k → isTerm a p ≡ true → all (λ x. ltb x p) (args (N k p)) ≡ true
-  low-args p k e t = subst (λ (n : Node). all (λ x. ltb x p) (args n) ≡ true) (node-kind a p k e) (args-below (w .chain) p t)
+  low-args p k e t = subst (λ (n : Node). all (λ x. ltb x p) (args n) ≡ true) (node-kind a p k e) (args-below (w .chain) p (term-pos a p t))
 
-  pub value-kind : (p : ℕ) → Lit p → valKind (M p) ≡ kindAt a p
-  unfolding valKind meanNode term makerMeans args keys
+  pub value-kind : (p : ℕ) → Literal p → valKind (M p) ≡ kindAt a p
+  unfolding valKind meanNode term makerMeans positions keys
   value-kind p l =
       let t = l .isterm in
       six (kindAt a p) (term-kind a p t) (lit-kind p l)
@@ -99,8 +105,8 @@ module _ (I : Interp) {a : Nodes} (w : WF a) where
       go false p false q = let x = eqb-false m 1 p in let y = eqb-false n 1 q in omega arith
 
   record Pair (p q : ℕ) : Type 0 where
-    left : Lit p
-    right : Lit q
+    left : Literal p
+    right : Literal q
     types : typeAt a p ≡ typeAt a q
 
   module _ (b : ℕ) (ih : (p q : ℕ) → p < b → Pair p q → M p ≡ M q → p ≡ q) (p q : ℕ) (p≤b : p ≤ b) (l : Pair p q) (e : M p ≡ M q) where
@@ -117,7 +123,7 @@ module _ (I : Interp) {a : Nodes} (w : WF a) where
     both k h = sym (mean-kind I (w .chain) p k h tp) ∙ e ∙ mean-kind I (w .chain) q k (sym kinds ∙ h) tq
 
     case16 : kindAt a p ≡ 16 → p ≡ q
-    unfolding makerTest meanNode term makerMeans args keys
+    unfolding makerTest meanNode term makerMeans positions keys
     case16 h =
         let h' = sym kinds ∙ h in
         let x = every-all _ (maker-test w p 16 h (omega arith) (omega arith)) in
@@ -128,7 +134,7 @@ module _ (I : Interp) {a : Nodes} (w : WF a) where
         (mem0 _ (eqb-true _ _ (x .0)) ∙ sym (mem0 _ (eqb-true _ _ (y .0))))
 
     case17 : kindAt a p ≡ 17 → p ≡ q
-    unfolding makerTest meanNode term makerMeans args keys
+    unfolding makerTest meanNode term makerMeans positions keys
     case17 h =
         let h' = sym kinds ∙ h in
         let x = every-all _ (maker-test w p 17 h (omega arith) (omega arith)) in
@@ -157,7 +163,7 @@ module _ (I : Interp) {a : Nodes} (w : WF a) where
         }) v
 
     case19 : kindAt a p ≡ 19 → p ≡ q
-    unfolding makerTest meanNode term makerMeans args keys
+    unfolding makerTest meanNode term makerMeans positions keys
     case19 h =
         let h' = sym kinds ∙ h in
         let x = every-all _ (maker-test w p 19 h (omega arith) (omega arith)) in
@@ -175,7 +181,7 @@ module _ (I : Interp) {a : Nodes} (w : WF a) where
         one p q 19 tp h h' (l .types) (eqb-true _ _ (x .1 .0) ∙ sym (eqb-true _ _ (y .1 .0))) (mp ∙ ap (λ (z : ℕ). z ∷ []) i ∙ sym mq)
 
     case20 : kindAt a p ≡ 20 → p ≡ q
-    unfolding makerTest meanNode term makerMeans args keys
+    unfolding makerTest meanNode term makerMeans positions keys
     case20 h =
         let h' = sym kinds ∙ h in
         let x = every-all _ (maker-test w p 20 h (omega arith) (omega arith)) in
@@ -220,7 +226,7 @@ module _ (I : Interp) {a : Nodes} (w : WF a) where
         cc
 
     case21 : kindAt a p ≡ 21 → p ≡ q
-    unfolding makerTest fieldRun meanNode term makerMeans args keys
+    unfolding makerTest fieldRun meanNode term makerMeans positions keys
     case21 h =
         let h' = sym kinds ∙ h in
         let x = every-all _ (maker-test w p 21 h (omega arith) (omega arith)) in

@@ -7,16 +7,16 @@ use mathlib.Core.Option.{none}
 use mathlib.Core.List.{[], _∷_, map}
 use lib.ListN.{length, getD}
 use lib.Dec.{eqb, leb, ltb}
-use borrow.Author.Tests.{eqb-true, eqb-false, leb-true, le-leb, lt-leb, lt-ltb}
+use borrow.Author.Tests.{eqb-true, eqb-false, leb-true, leb-false, le-leb, lt-leb, lt-ltb, ltb-true}
 use Rattle.arena.specs.Lists.{every, within, all}
 use Rattle.arena.specs.Nodes.{Node, node, Nodes, mark, nodeAt, kindAt, typeAt, parAt, memAt, args, find, fresh}
-use Rattle.arena.specs.Walks.{litNode, isLit, setNode, hasSet}
+use Rattle.arena.specs.Walks.{Verdict, said, ruled, walked, litRule, isLit}
 use Rattle.arena.specs.WellFormed.{isType, isTerm, placed, goodNode}
 use Rattle.arena.specs.Values.{vnone}
 use Rattle.arena.specs.Meaning.{tyOf, tyAt, Interp, meanNode, meaning}
 use Rattle.arena.proofs.Bools.{every-all, all-every}
-use Rattle.arena.proofs.Runs.{all-get, all-imp, map-agree, all-agree, any-agree}
-use Rattle.arena.proofs.Ext.{Ext, ext-same, ext-more, ext-trans, ext-older, mark-nil, mark-more, over-new, node-new, node-old, node-ext, kind-known, node-kind, ty-ext, meaning-ext, lit-ext, hasSet-ext}
+use Rattle.arena.proofs.Runs.{all-get, all-imp, map-agree, all-agree}
+use Rattle.arena.proofs.Ext.{Ext, ext-same, ext-more, ext-trans, ext-older, mark-nil, mark-more, over-new, node-new, node-old, node-ext, kind-known, node-kind, ty-ext, meaning-ext, walked-ext}
 
 pub data Chain : Nodes → Type 0 where
   nil : Chain []
@@ -110,7 +110,7 @@ term-ext {o} {a} e x k = subst (λ (n : Node). leb 16 (n .kind) ≡ true) (sym (
 pub placed-term : (o : Nodes) (n : Node) → 16 ≤ n .kind → goodNode o n ≡ true → (isType o (n .type) ≡ true) × (all (isTerm o) (args n) ≡ true)
 unfolding goodNode placed
 placed-term o n h e =
-    let p : placed o n ≡ true = every-all _ e .0 in
+    let p : placed o (n .kind) (n .type) (n .mem) ≡ true = every-all _ e .0 in
     let q : every (isType o (n .type) ∷ all (isTerm o) (args n) ∷ []) ≡ true = rw (lt-leb (n .kind) 15 h, placed) at p in
     let r = every-all _ q in (r .0, r .1 .0)
 
@@ -118,7 +118,7 @@ placed-term o n h e =
 pub placed-type : (o : Nodes) (n : Node) → n .kind ≤ 15 → goodNode o n ≡ true → (n .type ≡ 0) × (all (isType o) (args n) ≡ true)
 unfolding goodNode placed
 placed-type o n h e =
-    let p : placed o n ≡ true = every-all _ e .0 in
+    let p : placed o (n .kind) (n .type) (n .mem) ≡ true = every-all _ e .0 in
     let q : every (eqb (n .type) 0 ∷ all (isType o) (args n) ∷ []) ≡ true = rw (le-leb (n .kind) 15 h, placed) at p in
     let r = every-all _ q in (eqb-true _ _ (r .0), r .1 .0)
 
@@ -134,31 +134,53 @@ term-type {a} c x k =
     let pl = place-term c x k in
     type-ext (ext-older (pl .ext)) (typeAt a x) (placed-term (pl .older) (nodeAt a x) (term-kind a x k) (pl .good) .0)
 
--- a member is of the right sort, and lower
-pub term-arg : {a : Nodes} → Chain a → (p : ℕ) → isTerm a p ≡ true → (i : ℕ) → i < length (args (nodeAt a p))
-    → (isTerm a (getD (args (nodeAt a p)) i 0) ≡ true) × (getD (args (nodeAt a p)) i 0 < p)
-term-arg {a} c p k i h =
-    let pl = place-term c p k in
-    let x = all-get (isTerm (pl .older)) (args (nodeAt a p)) (placed-term (pl .older) (nodeAt a p) (term-kind a p k) (pl .good) .1) i h in
-    let q = pl .here in
-    let b = term-below (pl .older) (getD (args (nodeAt a p)) i 0) x in
-    (term-ext (ext-older (pl .ext)) (getD (args (nodeAt a p)) i 0) x, omega arith)
+-- ---- members stand lower
 
-pub type-arg : {a : Nodes} → Chain a → (p : ℕ) → isType a p ≡ true → (i : ℕ) → i < length (args (nodeAt a p))
-    → (isType a (getD (args (nodeAt a p)) i 0) ≡ true) × (getD (args (nodeAt a p)) i 0 < p)
-type-arg {a} c p k i h =
-    let pl = place-type c p k in
-    let x = all-get (isType (pl .older)) (args (nodeAt a p)) (placed-type (pl .older) (nodeAt a p) (type-kind a p k .1) (pl .good) .1) i h in
-    let q = pl .here in
-    let b = type-below (pl .older) (getD (args (nodeAt a p)) i 0) x in
-    (type-ext (ext-older (pl .ext)) (getD (args (nodeAt a p)) i 0) x, omega arith)
+-- a node starts at x
+abbrev pub starts : Nodes → ℕ → Bool
+starts a x = leb 1 (kindAt a x)
 
-pub args-below : {a : Nodes} → Chain a → (p : ℕ) → isTerm a p ≡ true → all (λ x. ltb x p) (args (nodeAt a p)) ≡ true
+pub start-below : (a : Nodes) (x : ℕ) → starts a x ≡ true → x < mark a
+start-below a x k = kind-known a x (leb-true 1 (kindAt a x) k)
+
+pub good-args : (o : Nodes) (n : Node) → goodNode o n ≡ true → all (starts o) (args n) ≡ true
+good-args o n g = go (leb (n .kind) 15) refl
+  where
+    go : (b : Bool) → leb (n .kind) 15 ≡ b → all (starts o) (args n) ≡ true
+    go true e = all-imp (isType o) (starts o) (λ x h. every-all _ h .0) (args n) (placed-type o n (leb-true (n .kind) 15 e) g .1)
+    go false e =
+        all-imp (isTerm o) (starts o) (λ x h. le-leb 1 (kindAt o x) (term-pos o x h)) (args n) (placed-term o n (leb-false (n .kind) 15 e) g .1)
+
+pub args-below : {a : Nodes} → Chain a → (p : ℕ) → 1 ≤ kindAt a p → all (λ x. ltb x p) (args (nodeAt a p)) ≡ true
 args-below {a} c p k =
-    let pl = place-term c p k in
+    let pl = place c p k in
     let here = pl .here in
-    all-imp (isTerm (pl .older)) (λ x. ltb x p) (λ x h. let z = term-below (pl .older) x h in lt-ltb x p (omega arith)) (args (nodeAt a p))
+    all-imp (starts (pl .older)) (λ x. ltb x p) (λ x h. let z = start-below (pl .older) x h in lt-ltb x p (omega arith)) (args (nodeAt a p))
+    (good-args (pl .older) (nodeAt a p) (pl .good))
+
+-- member i starts a node, and lower
+pub arg-start : {a : Nodes} → Chain a → (p : ℕ) → 1 ≤ kindAt a p → (i : ℕ) → i < length (args (nodeAt a p))
+    → (1 ≤ kindAt a (getD (args (nodeAt a p)) i 0)) × (getD (args (nodeAt a p)) i 0 < p)
+arg-start {a} c p k i h =
+    let pl = place c p k in
+    let x = getD (args (nodeAt a p)) i 0 in
+    let s = all-get (starts (pl .older)) (args (nodeAt a p)) (good-args (pl .older) (nodeAt a p) (pl .good)) i h in (
+      subst (λ (n : Node). 1 ≤ n .kind) (sym (node-ext (ext-older (pl .ext)) x (start-below (pl .older) x s))) (leb-true 1 (kindAt (pl .older) x) s),
+      ltb-true x p (all-get (λ x. ltb x p) (args (nodeAt a p)) (args-below c p k) i h),
+    )
+
+-- and is of the right sort
+pub term-arg : {a : Nodes} → Chain a → (p : ℕ) → isTerm a p ≡ true → all (isTerm a) (args (nodeAt a p)) ≡ true
+term-arg {a} c p k =
+    let pl = place-term c p k in
+    all-imp (isTerm (pl .older)) (isTerm a) (λ x h. term-ext (ext-older (pl .ext)) x h) (args (nodeAt a p))
     (placed-term (pl .older) (nodeAt a p) (term-kind a p k) (pl .good) .1)
+
+pub type-arg : {a : Nodes} → Chain a → (p : ℕ) → isType a p ≡ true → all (isType a) (args (nodeAt a p)) ≡ true
+type-arg {a} c p k =
+    let pl = place-type c p k in
+    all-imp (isType (pl .older)) (isType a) (λ x h. type-ext (ext-older (pl .ext)) x h) (args (nodeAt a p))
+    (placed-type (pl .older) (nodeAt a p) (type-kind a p k .1) (pl .good) .1)
 
 -- ---- a term read off its node in the same arena
 
@@ -193,28 +215,20 @@ pub mean-kind : (I : Interp) {a : Nodes} → Chain a → (p k : ℕ) → kindAt 
     → meaning I a p ≡ meanNode I a (meaning I a) (node k (typeAt a p) (parAt a p) (memAt a p))
 mean-kind I {a} c p k e t = mean-at I c p t ∙ ap (λ (n : Node). meanNode I a (meaning I a) n) (node-kind a p k e)
 
--- ---- the two walks read off a node
+-- ---- a walk read off a node
 
-pub litNode-ext : {o a : Nodes} (n : Node) → Ext o a → all (isTerm o) (args n) ≡ true → litNode o (isLit o) n ≡ litNode a (isLit a) n
-unfolding litNode
-litNode-ext {o} {a} n e h = rw (all-agree (isTerm o) (isLit o) (isLit a) (λ x k. sym (lit-ext e x (term-below o x k))) (args n) h)
+pub ruled-ext : (r : ℕ → Verdict) {o a : Nodes} (n : Node) → Ext o a → goodNode o n ≡ true → ruled r o (walked r o) n ≡ ruled r a (walked r a) n
+unfolding ruled
+ruled-ext r {o} {a} n e g =
+    ap (said (r (n .kind))) (all-agree (starts o) (walked r o) (walked r a) (λ x k. sym (walked-ext r e x (start-below o x k))) (args n) (good-args o n g))
 
-pub lit-at : {a : Nodes} → Chain a → (p : ℕ) → isTerm a p ≡ true → isLit a p ≡ litNode a (isLit a) (nodeAt a p)
-unfolding isLit
-lit-at {a} c p k =
-    let pl = place-term c p k in
-    lit-ext (pl .ext) p (place-below pl)
-    ∙ over-new false litNode (nodeAt a p) (pl .older) p (sym (pl .here))
-    ∙ litNode-ext (nodeAt a p) (ext-older (pl .ext)) (placed-term (pl .older) (nodeAt a p) (term-kind a p k) (pl .good) .1)
+pub walked-at : (r : ℕ → Verdict) {a : Nodes} → Chain a → (p : ℕ) → 1 ≤ kindAt a p → walked r a p ≡ ruled r a (walked r a) (nodeAt a p)
+unfolding walked
+walked-at r {a} c p k =
+    let pl = place c p k in
+    walked-ext r (pl .ext) p (place-below pl)
+    ∙ over-new false (ruled r) (nodeAt a p) (pl .older) p (sym (pl .here))
+    ∙ ruled-ext r (nodeAt a p) (ext-older (pl .ext)) (pl .good)
 
-pub setNode-ext : {o a : Nodes} (n : Node) → Ext o a → all (isType o) (args n) ≡ true → setNode o (hasSet o) n ≡ setNode a (hasSet a) n
-unfolding setNode
-setNode-ext {o} {a} n e h = rw (any-agree (isType o) (hasSet o) (hasSet a) (λ x k. sym (hasSet-ext e x (type-below o x k))) (args n) h)
-
-pub hasSet-at : {a : Nodes} → Chain a → (p : ℕ) → isType a p ≡ true → hasSet a p ≡ setNode a (hasSet a) (nodeAt a p)
-unfolding hasSet
-hasSet-at {a} c p k =
-    let pl = place-type c p k in
-    hasSet-ext (pl .ext) p (place-below pl)
-    ∙ over-new false setNode (nodeAt a p) (pl .older) p (sym (pl .here))
-    ∙ setNode-ext (nodeAt a p) (ext-older (pl .ext)) (placed-type (pl .older) (nodeAt a p) (type-kind a p k .1) (pl .good) .1)
+pub lit-at : {a : Nodes} → Chain a → (p : ℕ) → isTerm a p ≡ true → isLit a p ≡ ruled litRule a (isLit a) (nodeAt a p)
+lit-at {a} c p k = walked-at litRule c p (term-pos a p k)

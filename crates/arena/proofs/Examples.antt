@@ -1,25 +1,26 @@
 -- Arenas that the well-formedness test accepts, each beside one that differs in a single thing and is refused; and what the terms of one arena mean.
 use mathlib.Core.Path.{_≡_, refl, sym, _∙_}
-use Prim.Native.Nat.{ℕ, zero, suc}
+use Prim.Native.Nat.{ℕ, zero, suc, _<_}
 use native.Mathlib.Omega.{arith}
 use mathlib.Core.Bool.{Bool, true, false, not, cond}
 use mathlib.Core.List.{List, [], _∷_, _++_}
-use lib.ListN.{take}
+use lib.ListN.{length, take}
 use lib.Dec.{eqb, leb}
 use borrow.Author.Tests.{leb-true, not-true}
 use Rattle.bitvec.specs.Theory.{nat2bv, extract, allOnes, bvnot, bvneg, bvadd, bvmul, bvudiv, bvurem, bvshl, bvlshr, bvult, concat}
-use Rattle.bitvec.specs.Logic.{byTops, bvsub, bvsdiv, bvsrem, bvsmod, bvsmodOf, bvabs, bvule, bvslt, bvsle, top, zeroExtend}
+use Rattle.bitvec.specs.Logic.{byTop, byTops, bvsub, bvsdiv, bvsrem, bvsmod, bvsmodOf, bvabs, bvule, bvslt, bvsle, top, zeroExtend}
 use Rattle.bitvec.specs.Overflow.{bv2int, outside, bvnego, bvsaddo, bvssubo, bvsmulo}
 use Rattle.bitvec.specs.Numbered.{bvappOf, bvcmpOf, bvsoOf}
 use Rattle.arena.specs.Lists.{every, all, any, sameList, evens, odds, field, holdsField, rising}
-use Rattle.arena.specs.Nodes.{Node, node, Nodes, mark, over, nodeAt, args, keys, fieldTypes, same, find, fresh}
+use Rattle.arena.specs.Nodes.{Node, node, Nodes, mark, over, nodeAt, positions, keys, fieldTypes, same, find, fresh}
 use Rattle.arena.specs.Cells.{cells, padded, parseOn, parse, used}
-use Rattle.arena.specs.Walks.{setNode, hasSet}
+use Rattle.arena.specs.Walks.{ruled, walked, freeRule}
 use Rattle.arena.specs.WellFormed.{fieldRun, placed, typeTest, makerTest, coreTest, bvTest, dataTest, kindTest, goodNode, isFresh, startsFresh, goodNodes, absent, distinct, wellFormed, filled, clear, formed}
 use Rattle.arena.specs.Values.{Value, bool, bits, vnone, vsome, vset, vrec, vnil, vcons, fnil, fcons, code, compareT, compareV, eqV, ltV, risingV, insertV, setV, memV, subsetV, interV, recV, fieldV, asBool, asBits, asSet, asRec, getOr, allV, fits, zeroOf}
 use Rattle.arena.specs.Meaning.{recTy, mkTy, tyNode, tyOf, width, Interp, noneGet, makerMeans, coreMeans, bvMeans, dataMeans, term, meanNode, meaning}
 use Rattle.arena.proofs.Bools.{every-all, all-every}
 use Rattle.arena.proofs.Ext.{mark-fresh}
+use Rattle.arena.proofs.View.{tested}
 use Rattle.arena.proofs.Formed.{test-wf, wf-test, fresh-wf, not-formed, next-formed}
 use Rattle.arena.proofs.Padded.{padded-length, padded-formed}
 
@@ -203,11 +204,11 @@ hold [] = true
 hold (r ∷ rs) = every (holds r ∷ hold rs ∷ [])
 
 rows-hold : hold rows ≡ true
-unfolding every all any sameList evens odds field holdsField rising mark over nodeAt args fieldTypes same find cells parseOn parse used setNode hasSet fieldRun placed typeTest makerTest coreTest bvTest dataTest kindTest goodNode isFresh startsFresh goodNodes absent distinct wellFormed filled clear formed build base two full start whole fields rows follows holds hold
+unfolding every all any sameList evens odds field holdsField rising mark over nodeAt positions fieldTypes same find cells parseOn parse used ruled walked freeRule fieldRun placed typeTest makerTest coreTest bvTest dataTest kindTest goodNode isFresh startsFresh goodNodes absent distinct wellFormed filled clear formed build base two full start whole fields rows follows holds hold
 rows-hold = refl
 
 base-holds : wellFormed base ≡ true
-unfolding every all any sameList evens odds field holdsField rising mark over nodeAt args fieldTypes same find cells parseOn parse used setNode hasSet fieldRun placed typeTest makerTest coreTest bvTest dataTest kindTest goodNode isFresh startsFresh goodNodes absent distinct wellFormed filled clear formed build base two full start whole fields rows follows holds hold
+unfolding every all any sameList evens odds field holdsField rising mark over nodeAt positions fieldTypes same find cells parseOn parse used ruled walked freeRule fieldRun placed typeTest makerTest coreTest bvTest dataTest kindTest goodNode isFresh startsFresh goodNodes absent distinct wellFormed filled clear formed build base two full start whole fields rows follows holds hold
 base-holds = refl
 
 -- 400 cells that end with the node
@@ -244,14 +245,6 @@ all-say (r ∷ rs) e = let w = every-all _ e in (says r (w .0), all-say rs (w .1
 pub rows-say : AllSay rows
 rows-say = all-say rows rows-hold
 
--- 65,536 cells, and one more
-pub longest : (formed (padded 65536 fresh) (mark fresh) ≡ true) × (formed (padded 65537 fresh) (mark fresh) ≡ false)
-longest =
-    let m = mark-fresh in (
-      padded-formed 65536 fresh (omega arith) (omega arith) ∙ wf-test fresh-wf,
-      sym (not-formed (padded 65537 fresh) (mark fresh) (λ A. let l = padded-length 65537 fresh (omega arith) in let s = A .below .short in omega arith)),
-    )
-
 -- ---- what the terms of the arena mean
 
 -- the variables: true, 9, some of 9, the set of 9, and a record; every function is zero
@@ -282,5 +275,24 @@ meant [] = true
 meant (e ∷ es) = every (eqV (meaning sample full (e .0)) (e .1) ∷ meant es ∷ [])
 
 pub meanings-hold : meant meanings ≡ true
-unfolding evens odds mark over nodeAt args keys compareT compareV eqV ltV risingV insertV setV memV subsetV interV recV fieldV asBool asBits asSet asRec getOr allV code fits zeroOf recTy mkTy tyNode tyOf width noneGet makerMeans coreMeans bvMeans dataMeans term meanNode meaning nat2bv extract concat allOnes bvnot bvneg bvadd bvmul bvudiv bvurem bvshl bvlshr bvult top byTops bvsub bvsdiv bvsrem bvabs bvsmodOf bvsmod bvule bvslt bvsle zeroExtend bv2int outside bvnego bvsaddo bvssubo bvsmulo bvappOf bvcmpOf bvsoOf every build base two full sample meanings meant
+unfolding evens odds mark over nodeAt positions keys compareT compareV eqV ltV risingV insertV setV memV subsetV interV recV fieldV asBool asBits asSet asRec getOr allV code fits zeroOf recTy mkTy tyNode tyOf width noneGet makerMeans coreMeans bvMeans dataMeans term meanNode meaning nat2bv extract concat allOnes bvnot bvneg bvadd bvmul bvudiv bvurem bvshl bvlshr bvult top byTop byTops bvsub bvsdiv bvsrem bvabs bvsmodOf bvsmod bvule bvslt bvsle zeroExtend bv2int outside bvnego bvsaddo bvssubo bvsmulo bvappOf bvcmpOf bvsoOf every build base two full sample meanings meant
 meanings-hold = refl
+
+-- ---- limits that no small table shows
+
+-- 65,536 cells, and one more
+pub longest : (formed (padded 65536 fresh) (mark fresh) ≡ true) × (formed (padded 65537 fresh) (mark fresh) ≡ false)
+longest =
+    let m = mark-fresh in (
+      padded-formed 65536 fresh (omega arith) (omega arith) ∙ wf-test fresh-wf,
+      sym (not-formed (padded 65537 fresh) (mark fresh) (λ A. let l = padded-length 65537 fresh (omega arith) in let s = A .below .short in omega arith)),
+    )
+
+-- a set of more than 256 members, over any nodes
+pub too-many : (a : Nodes) (t : ℕ) (ms : List ℕ) → 256 < length ms → goodNode a (node 20 t 0 ms) ≡ false
+unfolding kindTest makerTest
+too-many a t ms h = go (goodNode a (node 20 t 0 ms)) refl
+  where
+    go : (b : Bool) → goodNode a (node 20 t 0 ms) ≡ b → goodNode a (node 20 t 0 ms) ≡ false
+    go false e = e
+    go true e = let l = leb-true (length ms) 256 (every-all _ (tested a (node 20 t 0 ms) e) .0) in absurd (omega arith)

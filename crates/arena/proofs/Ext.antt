@@ -8,7 +8,8 @@ use mathlib.Core.List.{List, [], _∷_}
 use lib.Dec.{leb}
 use borrow.Author.Tests.{eq-eqb, ne-eqb, leb-true, leb-false}
 use Rattle.arena.specs.Nodes.{Node, node, nowhere, Nodes, size, mark, over, nodeAt, kindAt, typeAt, parAt, memAt, fresh}
-use Rattle.arena.specs.Walks.{litNode, isLit, setNode, hasSet}
+use Rattle.arena.specs.Walks.{Verdict, ruled, walked}
+use Rattle.arena.specs.WellFormed.{fewest}
 use Rattle.arena.specs.Values.{tbool, vnone}
 use Rattle.arena.specs.Meaning.{tyNode, tyOf, Interp, meanNode, meaning}
 
@@ -37,7 +38,7 @@ pub mark-nil : mark [] ≡ 0
 unfolding mark
 mark-nil = refl
 
-pub mark-fresh : mark fresh ≡ 12
+pub mark-fresh : mark fresh ≡ fewest
 unfolding mark
 mark-fresh = refl
 
@@ -109,7 +110,7 @@ node-eq n e f g h = sym (λ i. record { kind = e i; type = f i; par = g i; mem =
 pub node-kind : (a : Nodes) (p k : ℕ) → kindAt a p ≡ k → nodeAt a p ≡ node k (typeAt a p) (parAt a p) (memAt a p)
 node-kind a p k e = λ i. record { kind = e i; type = typeAt a p; par = parAt a p; mem = memAt a p }
 
--- ---- types, meanings, literals and sets
+-- ---- types, meanings and walks
 
 pub ty-ext : {a b : Nodes} → Ext a b → (p : ℕ) → p < mark a → tyOf b p ≡ tyOf a p
 unfolding tyOf
@@ -119,10 +120,6 @@ pub meaning-ext : (I : Interp) {a b : Nodes} → Ext a b → (p : ℕ) → p < m
 unfolding meaning
 meaning-ext I e p h = over-ext vnone (meanNode I) e p h
 
-pub lit-ext : {a b : Nodes} → Ext a b → (p : ℕ) → p < mark a → isLit b p ≡ isLit a p
-unfolding isLit
-lit-ext e p h = over-ext false litNode e p h
-
-pub hasSet-ext : {a b : Nodes} → Ext a b → (p : ℕ) → p < mark a → hasSet b p ≡ hasSet a p
-unfolding hasSet
-hasSet-ext e p h = over-ext false setNode e p h
+pub walked-ext : (r : ℕ → Verdict) {a b : Nodes} → Ext a b → (p : ℕ) → p < mark a → walked r b p ≡ walked r a p
+unfolding walked
+walked-ext r e p h = over-ext false (ruled r) e p h

@@ -14,8 +14,8 @@ use Rattle.arena.specs.WellFormed.{small, fieldRun, isType, isTerm}
 use Rattle.arena.specs.Values.{Value, recV, fieldV}
 use Rattle.arena.proofs.Bools.{none≢some, every-all, all-every, by-cases}
 use Rattle.arena.proofs.Runs.{all-at, all-cons, all0, all1}
-use Rattle.arena.proofs.Chain.{Chain, term-type}
 use Rattle.arena.proofs.Rising.{insert-all?, insert-rises}
+use Rattle.arena.proofs.Chain.{Chain, term-type}
 
 -- ---- one field put into a run
 

@@ -10,14 +10,16 @@ use lib.ListN.{length, take}
 use lib.Seq.{length-take-le}
 use borrow.Author.Tests.{leb-true, le-leb}
 use Rattle.arena.specs.Lists.{every, all, sameList}
-use Rattle.arena.specs.Nodes.{Node, node, Nodes, mark, over, nodeAt, args, same, find, fresh}
+use Rattle.arena.specs.Nodes.{Node, node, Nodes, mark, over, nodeAt, positions, same, find, fresh}
 use Rattle.arena.specs.Cells.{cells, parse, used}
-use Rattle.arena.specs.WellFormed.{placed, typeTest, makerTest, kindTest, goodNode, isFresh, startsFresh, goodNodes, absent, distinct, wellFormed, filled, formed, Below, IsArena}
+use Rattle.arena.specs.WellFormed.{fewest, most, placed, typeTest, makerTest, kindTest, goodNode, isFresh, startsFresh, goodNodes, absent, distinct, wellFormed, filled, formed, Below, IsArena}
 use Rattle.arena.specs.Values.{fits}
 use Rattle.arena.proofs.Bools.{t≢f, or-right, or-cases, both-ways, every-all, all-every}
 use Rattle.arena.proofs.Ext.{Ext, ext-same, ext-more, mark-fresh, mark-ext}
 use Rattle.arena.proofs.Chain.{Chain, nil, link, WF, link-is}
 use Rattle.arena.proofs.Put.{same-node}
+use Rattle.arena.proofs.Known.{B}
+use Rattle.arena.proofs.Built.{reads}
 use Rattle.arena.proofs.Flat.{length-cells, cells-parse}
 
 -- ---- an arena
@@ -82,7 +84,7 @@ unfolding wellFormed
 wf-test w = let r = chain-tests (w .chain) in all-every _ (ext-starts (w .base), (r .0, (r .1, tt)))
 
 pub fresh-wf : WF fresh
-unfolding goodNode placed kindTest typeTest makerTest every all args nodeAt over mark find same sameList
+unfolding goodNode placed kindTest typeTest makerTest every all positions nodeAt over mark find same sameList
 fresh-wf = record { base = ext-same; chain = link (link (link nil refl refl) refl refl) refl refl }
 
 -- ---- lent cells and a mark
@@ -115,12 +117,12 @@ module _ {c : List ℕ} {m : ℕ} (B : Below c m) where
   mark-is = sym (length-cells (used c m)) ∙ ap length cells-are ∙ length-take-le m c (B .fits)
 
 -- it is enough that the nodes are well formed and fit
-pub below-of : (c : List ℕ) (m : ℕ) (a : Nodes) → m ≤ length c → length c ≤ 65536 → parse (take m c) ≡ some a → WF a → Below c m
+pub below-of : (c : List ℕ) (m : ℕ) (a : Nodes) → m ≤ length c → length c ≤ most → parse (take m c) ≡ some a → WF a → Below c m
 below-of c m a f s p w =
     let u = used-is c m a p in
     record { least = least; fits = f; short = s; reads = p ∙ ap some (sym u); well = ap wellFormed u ∙ wf-test w }
   where
-    least : 12 ≤ m
+    least : fewest ≤ m
     least =
         let x = mark-ext (w .base) in let y = mark-fresh in
         let z : mark a ≡ m = sym (length-cells a) ∙ ap length (cells-parse (take m c) a p) ∙ length-take-le m c f in

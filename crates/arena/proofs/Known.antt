@@ -10,8 +10,8 @@ use lib.Dec.{eqb}
 use borrow.Author.Tests.{eqb-true, eqb-false, leb-true, le-leb, ltb-true}
 use Rattle.bitvec.specs.Theory.{bvneg}
 use Rattle.arena.specs.Lists.{all, evens, odds, rising}
-use Rattle.arena.specs.Nodes.{Node, node, Nodes, nodeAt, kindAt, typeAt, parAt, memAt, argAt, elemAt, widthAt, args, keys, fieldTypes, F, T}
-use Rattle.arena.specs.Walks.{litNode, isLit}
+use Rattle.arena.specs.Nodes.{Node, node, Nodes, nodeAt, kindAt, typeAt, parAt, memAt, argAt, elemAt, widthAt, positions, keys, fieldTypes, F, T}
+use Rattle.arena.specs.Walks.{ruled, litRule, isLit}
 use Rattle.arena.specs.WellFormed.{fieldRun, isTerm, makerTest, coreTest, bvTest}
 use Rattle.arena.specs.Values.{Value, bool, bits, vnone, vsome, vset, vrec, setV, recV, asBool, asBits, fits, zeroOf}
 use Rattle.arena.specs.Meaning.{recTy, tyOf, tyAt, width, Interp, Good, makerMeans, coreMeans, bvMeans, term, meanNode, meaning}
@@ -19,8 +19,8 @@ use Rattle.arena.proofs.Bools.{and-l, every-all}
 use Rattle.arena.proofs.Runs.{mem1, mem3, all-get, same-list}
 use Rattle.arena.proofs.Chain.{WF, placed-term, mean-at, lit-at}
 use Rattle.arena.proofs.View.{Tm}
-use Rattle.arena.proofs.Types.{ty-bv, ty-opt, ty-rec}
 use Rattle.arena.proofs.Base.{false-tm, true-tm, false-means, true-means, false-lit, true-lit}
+use Rattle.arena.proofs.Types.{ty-bv, ty-opt, ty-rec}
 use Rattle.arena.proofs.Whole.{good-kind, maker-test, core-test, bv-test, operand}
 use Rattle.arena.proofs.Fits.{zero-fits, opt-fits, rec-fits}
 use Rattle.arena.proofs.Sound.{fit-tm, bool-at, bits-at, set-at}
@@ -46,8 +46,8 @@ module _ {a : Nodes} (w : WF a) (p : ℕ) {k : ℕ} {ms : List ℕ} (e : kindAt 
   pub mean-as : (I : Interp) → meaning I a p ≡ meanNode I a (meaning I a) (node k (typeAt a p) (parAt a p) ms)
   mean-as I = mean-at I (w .chain) p is-term ∙ ap (λ (n : Node). meanNode I a (meaning I a) n) node-as
 
-  pub lit-as : isLit a p ≡ litNode a (isLit a) (node k (typeAt a p) (parAt a p) ms)
-  lit-as = lit-at (w .chain) p is-term ∙ ap (λ (n : Node). litNode a (isLit a) n) node-as
+  pub lit-as : isLit a p ≡ ruled litRule a (isLit a) (node k (typeAt a p) (parAt a p) ms)
+  lit-as = lit-at (w .chain) p is-term ∙ ap (λ (n : Node). ruled litRule a (isLit a) n) node-as
 
 -- ---- literals of bitvectors, None and Some
 
@@ -73,7 +73,7 @@ pub record SomeNode (a : Nodes) (p : ℕ) : Type 0 where
   pub lits : Lit a p → Lit a (argAt a p 0)
 
 pub some-node : {a : Nodes} → WF a → (p : ℕ) → kindAt a p ≡ 19 → SomeNode a p
-unfolding makerTest meanNode term makerMeans litNode args keys all
+unfolding makerTest meanNode term makerMeans ruled litRule positions keys all
 some-node {a} w p e =
     let h = every-all _ (maker-test w p 19 e (omega arith) (omega arith)) in
     let l = eqb-true (length (memAt a p)) 1 (h .0) in
@@ -98,7 +98,7 @@ pub record SetNode (a : Nodes) (p : ℕ) : Type 0 where
   pub lits : isLit a p ≡ all (isLit a) (memAt a p)
 
 pub set-node : {a : Nodes} → WF a → (p : ℕ) → kindAt a p ≡ 20 → SetNode a p
-unfolding makerTest meanNode term makerMeans litNode args keys
+unfolding makerTest meanNode term makerMeans ruled litRule positions keys
 set-node {a} w p e =
     let h = every-all _ (maker-test w p 20 e (omega arith) (omega arith)) in
     record {
@@ -120,7 +120,7 @@ pub record RecNode (a : Nodes) (p : ℕ) : Type 0 where
   pub lits : isLit a p ≡ all (isLit a) (odds (memAt a p))
 
 pub rec-node : {a : Nodes} → WF a → (p : ℕ) → kindAt a p ≡ 21 → RecNode a p
-unfolding makerTest meanNode term makerMeans litNode args keys
+unfolding makerTest meanNode term makerMeans ruled litRule positions keys
 rec-node {a} w p e =
     let h = every-all _ (maker-test w p 21 e (omega arith) (omega arith)) in
     record {
@@ -140,7 +140,7 @@ pub record NotNode (a : Nodes) (p : ℕ) : Type 0 where
   pub means : (I : Interp) → meaning I a p ≡ bool (not (asBool (meaning I a (argAt a p 0))))
 
 pub not-node : {a : Nodes} → WF a → (p : ℕ) → kindAt a p ≡ 120 → NotNode a p
-unfolding coreTest meanNode term coreMeans args keys
+unfolding coreTest meanNode term coreMeans positions keys
 not-node {a} w p e =
     let h = every-all _ (core-test w p 120 e (omega arith) (omega arith)) in
     let l = eqb-true (length (memAt a p)) 1 (h .0) in
@@ -158,7 +158,7 @@ pub record IteNode (a : Nodes) (p : ℕ) : Type 0 where
   pub means : (I : Interp) → meaning I a p ≡ cond (asBool (meaning I a (argAt a p 0))) (meaning I a (argAt a p 1)) (meaning I a (argAt a p 2))
 
 pub ite-node : {a : Nodes} → WF a → (p : ℕ) → kindAt a p ≡ 125 → IteNode a p
-unfolding coreTest meanNode term coreMeans args keys
+unfolding coreTest meanNode term coreMeans positions keys
 ite-node {a} w p e =
     let h = every-all _ (core-test w p 125 e (omega arith) (omega arith)) in
     let l = eqb-true (length (memAt a p)) 3 (h .0) in
@@ -176,7 +176,7 @@ pub record NegNode (a : Nodes) (p : ℕ) : Type 0 where
   pub means : (I : Interp) → meaning I a p ≡ bits (bvneg (width (tyAt a (argAt a p 0))) (asBits (meaning I a (argAt a p 0))))
 
 pub neg-node : {a : Nodes} → WF a → (p : ℕ) → kindAt a p ≡ 130 → NegNode a p
-unfolding bvTest meanNode term bvMeans args keys
+unfolding bvTest meanNode term bvMeans positions keys
 neg-node {a} w p e =
     let h = every-all _ (bv-test w p 130 e (omega arith) (omega arith)) in
     let l = eqb-true (length (memAt a p)) 1 (h .0) in

@@ -14,11 +14,11 @@ use Rattle.arena.specs.Values.{Value, Values, eqV, insertV, setV, memV, 
 use Rattle.arena.specs.Meaning.{Interp, meaning}
 use Rattle.arena.proofs.Bools.{t≢f, or-right, or-cases, or-and-in, or-and-out, both-ways}
 use Rattle.arena.proofs.Runs.{all-at, all-cons, all0}
+use Rattle.arena.proofs.Rising.{sorted-any}
 use Rattle.arena.proofs.Chain.{WF}
 use Rattle.arena.proofs.View.{Tm}
 use Rattle.arena.proofs.Sets.{eqV-eq, eqV-refl, insert-mem, set-ext}
 use Rattle.arena.proofs.SetOps.{inter-mem, inter-rising, subset-mem, mem-subset, set-mem, set-rising}
-use Rattle.arena.proofs.Rising.{sorted-any}
 use Rattle.arena.proofs.Canon.{canon}
 use Rattle.arena.proofs.Known.{Lit}
 

@@ -1,5 +1,5 @@
 -- Lent cells are their arena's cells and then zeros: the arena and the length say every cell.
-use mathlib.Core.Path.{_≡_, refl, sym, ap, ap₂, _∙_}
+use mathlib.Core.Path.{_≡_, refl, sym, ap, ap₂, _∙_, subst}
 use Prim.Native.Nat.{ℕ, zero, suc, _+_, _-_, _≤_}
 use native.Mathlib.Omega.{arith}
 use mathlib.Core.Bool.{true}
@@ -9,15 +9,16 @@ use lib.Seq.{drop-drop, take-at, drop-at}
 use lib.Dec.{eqb}
 use borrow.Author.Tests.{eqb-true}
 use Rattle.arena.specs.Lists.{all}
-use Rattle.arena.specs.Nodes.{Node, Nodes, size, mark}
+use Rattle.arena.specs.Nodes.{Node, Nodes, size, mark, put, fresh}
 use Rattle.arena.specs.Cells.{cellsOf, cells, padded, parse, used}
-use Rattle.arena.specs.WellFormed.{wellFormed, clear, formed, IsArena}
+use Rattle.arena.specs.WellFormed.{fewest, most, goodNode, wellFormed, clear, formed, IsArena}
 use Rattle.arena.proofs.Bools.{both-ways}
 use Rattle.arena.proofs.Runs.{all-at}
-use Rattle.arena.proofs.Ext.{mark-cons}
+use Rattle.arena.proofs.Ext.{Ext, mark-fresh, mark-cons}
 use Rattle.arena.proofs.Chain.{WF}
-use Rattle.arena.proofs.Flat.{length-cells, parse-cells}
-use Rattle.arena.proofs.Formed.{test-wf, used-is, cells-are, mark-is, below-of, formed-arena, arena-formed}
+use Rattle.arena.proofs.Put.{put-wf}
+use Rattle.arena.proofs.Flat.{length-cells, parse-cells, ext-cells}
+use Rattle.arena.proofs.Formed.{test-wf, fresh-wf, used-is, wf, cells-are, mark-is, below-of, formed-arena, arena-formed}
 
 zero-list : (l : List ℕ) → all (λ x. eqb x 0) l ≡ true → l ≡ replicate (length l) 0
 zero-list [] e = refl
@@ -61,7 +62,7 @@ module _ (n : ℕ) (a : Nodes) (f : mark a ≤ n) where
   pub padded-used : used (padded n a) (mark a) ≡ a
   padded-used = used-is (padded n a) (mark a) a (ap parse padded-take ∙ parse-cells a)
 
-  pub padded-arena : WF a → n ≤ 65536 → IsArena (padded n a) (mark a)
+  pub padded-arena : WF a → n ≤ most → IsArena (padded n a) (mark a)
   unfolding clear
   padded-arena w h = record {
     below = below-of (padded n a) (mark a) a (let x = padded-length in omega arith) (let x = padded-length in omega arith) (ap parse padded-take ∙ parse-cells a) w;
@@ -86,8 +87,34 @@ module _ {c : List ℕ} {m : ℕ} (A : IsArena c m) (n : Node) (f : m + size n �
       ∙ ap₂ (λ (l r : List ℕ). (l ++ cellsOf n) ++ r) (sym (cells-are (A .below))) rest
 
 -- the test on padded cells is the test on the arena
-pub padded-formed : (n : ℕ) (a : Nodes) → mark a ≤ n → n ≤ 65536 → formed (padded n a) (mark a) ≡ wellFormed a
+pub padded-formed : (n : ℕ) (a : Nodes) → mark a ≤ n → n ≤ most → formed (padded n a) (mark a) ≡ wellFormed a
 padded-formed n a f h =
     both-ways (formed (padded n a) (mark a)) (wellFormed a)
     (λ e. sym (ap wellFormed (padded-used n a f)) ∙ formed-arena (padded n a) (mark a) e .below .well)
     (λ e. arena-formed (padded n a) (mark a) (padded-arena n a f (test-wf a e) h))
+
+-- found or added, in lent cells that have room
+pub put-arena : {c : List ℕ} {m : ℕ} (A : IsArena c m) (n : Node) → goodNode (used c m) n ≡ true → mark (put (used c m) n .arena) ≤ length c
+    → IsArena (padded (length c) (put (used c m) n .arena)) (mark (put (used c m) n .arena))
+put-arena {c} {m} A n g f = padded-arena (length c) (put (used c m) n .arena) f (put-wf (wf (A .below)) n g) (A .below .short)
+
+-- ---- a fresh arena, and cells set back
+
+pub fresh-cells : cells fresh ≡ 1 ∷ 0 ∷ 0 ∷ 0 ∷ 16 ∷ 0 ∷ 0 ∷ 0 ∷ 16 ∷ 0 ∷ 1 ∷ 0 ∷ []
+unfolding cells
+fresh-cells = refl
+
+pub fresh-arena : (n : ℕ) → fewest ≤ n → n ≤ most → IsArena (padded n fresh) fewest
+fresh-arena n l h = let m = mark-fresh in subst (IsArena (padded n fresh)) m (padded-arena n fresh (omega arith) fresh-wf h)
+
+-- zeros from the mark on give the cells back
+pub arena-cleared : {c : List ℕ} {m : ℕ} → IsArena c m → take m c ++ replicate (length c - m) 0 ≡ c
+arena-cleared {c} {m} A = ap (λ (l : List ℕ). take m c ++ l) (sym (arena-tail A)) ∙ take-append-drop m c
+
+-- a longer arena's cells start with the older one's
+pub grown-take : {a b : Nodes} → Ext a b → (n : ℕ) → take (mark a) (padded n b) ≡ cells a
+grown-take {a} {b} e n =
+    let x = ext-cells e in
+    ap (λ (l : List ℕ). take (mark a) (l ++ replicate (n - mark b) 0)) (x .1)
+    ∙ ap (take (mark a)) (append-assoc (cells a) (x .0) (replicate (n - mark b) 0))
+    ∙ take-at (cells a) (x .0 ++ replicate (n - mark b) 0) (mark a) (length-cells a)

@@ -10,7 +10,7 @@ use lib.Seq.{getD-take, getD-drop, length-take-le, ext-getD}
 use lib.Dec.{eqb, leb}
 use borrow.Author.Tests.{eqb-true, eqb-false, leb-true, leb-false}
 use Rattle.arena.specs.Lists.{odds}
-use Rattle.arena.specs.Nodes.{header, Node, nowhere, Nodes, mark, nodeAt, kindAt, typeAt, parAt, memAt, paired, args}
+use Rattle.arena.specs.Nodes.{header, Node, nowhere, Nodes, mark, nodeAt, kindAt, typeAt, parAt, memAt, paired, positions, args}
 use Rattle.arena.specs.Cells.{cellsOf, used, nodeHere, after}
 use Rattle.arena.specs.WellFormed.{Below}
 use Rattle.arena.specs.Values.{fits}
@@ -18,6 +18,7 @@ use Rattle.arena.proofs.Runs.{odds-length, odds-at}
 use Rattle.arena.proofs.Ext.{mark-nil, mark-cons, mark-ext, node-new, node-old, node-far, node-eq}
 use Rattle.arena.proofs.Chain.{Chain, nil, link, no-node, place}
 use Rattle.arena.proofs.View.{good-pos}
+use Rattle.arena.proofs.Known.{B}
 use Rattle.arena.proofs.Flat.{cell-at}
 use Rattle.arena.proofs.Formed.{wf, cells-are, mark-is}
 
@@ -79,16 +80,16 @@ module _ {c : List ℕ} {m : ℕ} (B : Below c m) (p : ℕ) (h : 1 ≤ kindAt (u
 
   -- the members that are positions: every second one of a run of fields, else all
   pub args-odds : paired (getD c p 0) ≡ true → args (nodeAt (used c m) p) ≡ odds (memAt (used c m) p)
-  unfolding args
+  unfolding positions
   args-odds e =
       let k : paired (kindAt (used c m) p) ≡ true = subst (λ (x : ℕ). paired x ≡ true) read-kind e in
-      rw (k, args)
+      rw (k, positions)
 
   pub args-all : paired (getD c p 0) ≡ false → args (nodeAt (used c m) p) ≡ memAt (used c m) p
-  unfolding args
+  unfolding positions
   args-all e =
       let k : paired (kindAt (used c m) p) ≡ false = subst (λ (x : ℕ). paired x ≡ false) read-kind e in
-      rw (k, args)
+      rw (k, positions)
 
   pub count-odds : paired (getD c p 0) ≡ true → getD c (p + 3) 0 / 2 ≡ length (args (nodeAt (used c m) p))
   count-odds e = sym (ap length (args-odds e) ∙ odds-length (memAt (used c m) p) ∙ ap (λ (n : ℕ). n / 2) (sym read-count))

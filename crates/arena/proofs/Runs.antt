@@ -77,11 +77,6 @@ unfolding all
 all-agree t f g h [] e = refl
 all-agree t f g h (x ∷ r) e = let p = all-at t x r e in ap₂ _&&_ (h x (p .0)) (all-agree t f g h r (p .1))
 
-pub any-agree : (t f g : ℕ → Bool) → ((x : ℕ) → t x ≡ true → f x ≡ g x) → (r : List ℕ) → all t r ≡ true → any f r ≡ any g r
-unfolding any
-any-agree t f g h [] e = refl
-any-agree t f g h (x ∷ r) e = let p = all-at t x r e in ap₂ _||_ (h x (p .0)) (any-agree t f g h r (p .1))
-
 -- ---- members
 
 pub mem-here : (x : ℕ) (r : List ℕ) → mem? x (x ∷ r) ≡ true

@@ -11,6 +11,7 @@ use Rattle.arena.specs.Cells.{used, nodeHere, after}
 use Rattle.arena.specs.WellFormed.{absent, Below}
 use Rattle.arena.proofs.Ext.{Ext, ext-same, ext-more, ext-all, mark-nil, mark-cons, mark-more, mark-ext}
 use Rattle.arena.proofs.Put.{same-node, find-at}
+use Rattle.arena.proofs.Known.{B}
 use Rattle.arena.proofs.Formed.{wf, mark-is}
 use Rattle.arena.proofs.Read.{read-count, after-end, here-at}
 use Rattle.arena.proofs.Tiling.{Next, next, next-there, next-pos}

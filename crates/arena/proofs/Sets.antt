@@ -1,9 +1,9 @@
 -- Finite sets: strictly rising runs of values are equal where their members are.
 use mathlib.Core.Path.{_≡_, refl, sym, ap, ap₂, _∙_}
 use Prim.Native.Nat.{Ordering, Ordering·lt, Ordering·eq, Ordering·gt}
-use mathlib.Core.Bool.{Bool, true, false, _||_}
-use Rattle.arena.specs.Values.{Value, Values, vnil, vcons, code, compareV, isEq, isLt, eqV, ltV, risingV, insertV, memV, allV}
-use Rattle.arena.proofs.Bools.{t≢f, and-l, and-r}
+use mathlib.Core.Bool.{Bool, true, false, not, _||_}
+use Rattle.arena.specs.Values.{Value, bool, vnone, vsome, Values, vnil, vcons, code, compareT, compareV, isEq, isLt, eqV, ltV, risingV, insertV, memV, allV}
+use Rattle.arena.proofs.Bools.{t≢f, and-l, and-r, both-ways}
 use Rattle.arena.proofs.Order.{code-inj, tree-refl, tree-eq, tree-flip, tree-trans}
 
 is-lt : (o : Ordering) → isLt o ≡ true → o ≡ Ordering·lt
@@ -177,3 +177,33 @@ set-ext (vcons v r) (vcons w q) e f h =
     go Ordering·lt (tri-lt l) ih = t≢f (sym (here v r) ∙ h v ∙ out v w q l f)
     go Ordering·eq (tri-eq p) ih = ap₂ vcons p (ih (tails p))
     go Ordering·gt (tri-gt l) ih = t≢f (sym (here w q) ∙ sym (h w) ∙ out w v r l e)
+
+-- ---- equality by the sort of value
+
+pub eqV-sym : (v w : Value) → eqV v w ≡ eqV w v
+eqV-sym v w =
+    both-ways (eqV v w) (eqV w v)
+    (λ e. ap (λ (u : Value). eqV u v) (sym (eqV-eq v w e)) ∙ eqV-refl v)
+    (λ e. ap (λ (u : Value). eqV u w) (sym (eqV-eq w v e)) ∙ eqV-refl w)
+
+pub eqV-some : (v w : Value) → eqV (vsome v) (vsome w) ≡ eqV v w
+unfolding eqV compareV compareT code
+eqV-some v w = refl
+
+pub eqV-some-none : (v : Value) → eqV (vsome v) vnone ≡ false
+unfolding eqV compareV compareT code
+eqV-some-none v = refl
+
+pub eqV-none-some : (v : Value) → eqV vnone (vsome v) ≡ false
+unfolding eqV compareV compareT code
+eqV-none-some v = refl
+
+pub eqV-true : (b : Bool) → eqV (bool b) (bool true) ≡ b
+unfolding eqV compareV compareT code
+eqV-true true = refl
+eqV-true false = refl
+
+pub eqV-false : (b : Bool) → eqV (bool b) (bool false) ≡ not b
+unfolding eqV compareV compareT code
+eqV-false true = refl
+eqV-false false = refl

@@ -9,7 +9,7 @@ use borrow.Author.Tests.{ne-eqb, eqb-true, eqb-false, leb-true, leb-false, le-le
 use Rattle.bitvec.specs.Numbered.{bvappOf, bvcmpOf, bvsoOf}
 use Rattle.bitvec.proofs.Below.{bvneg-lt, bvapp-lt}
 use Rattle.arena.specs.Lists.{evens, odds}
-use Rattle.arena.specs.Nodes.{Node, node, Nodes, mark, kindAt, typeAt, parAt, memAt, argAt, args, keys, fieldTypes, fresh}
+use Rattle.arena.specs.Nodes.{Node, node, Nodes, mark, kindAt, typeAt, parAt, memAt, argAt, positions, args, keys, fieldTypes, fresh}
 use Rattle.arena.specs.WellFormed.{isType, isTerm}
 use Rattle.arena.specs.Values.{Ty, tbool, Value, bool, bits, vnone, setV, interV, asBool, asBits, asSet, asRec, fits}
 use Rattle.arena.specs.Meaning.{recTy, tyOf, tyAt, width, Interp, Good, noneGet, makerMeans, coreMeans, bvMeans, dataMeans, term, meanNode, meaning}
@@ -82,7 +82,7 @@ module _ (I : Interp) (G : Good I) (o : Nodes) (c : Chain o) (b : isType o 0 ≡
   number t v e h = rw (ty-bv c t e) (lt-ltb v (2 ^ parAt o t) h)
 
   fit-is : (n : Node) → 16 ≤ n .kind → isType o (n .type) ≡ true → Is o n → fits (tyOf o (n .type)) (meanNode I o (meaning I o) n) ≡ true
-  unfolding meanNode term makerMeans coreMeans bvMeans dataMeans args keys
+  unfolding meanNode term makerMeans coreMeans bvMeans dataMeans positions keys
   fit-is n h t is-bool = absurd (omega arith)
   fit-is n h t (is-bv w p q) = absurd (omega arith)
   fit-is n h t (is-opt x p) = absurd (omega arith)

@@ -9,10 +9,12 @@ use lib.ListN.{length, take, drop, getD, length-drop, take-append-drop}
 use lib.Seq.{length-take-le, drop-cons, take-add, take-take, take-at}
 use Rattle.arena.specs.Nodes.{header, Node, Nodes, mark, nodeAt, kindAt, fresh}
 use Rattle.arena.specs.Cells.{cellsOf, cells, parseOn, parse, used, nodeHere, after}
-use Rattle.arena.specs.WellFormed.{goodNode, absent, Below}
+use Rattle.arena.specs.WellFormed.{fewest, most, goodNode, absent, Below}
 use Rattle.arena.proofs.Ext.{Ext, ext-same, ext-more, mark-fresh, mark-more, mark-ext, node-new, node-ext}
 use Rattle.arena.proofs.Chain.{Chain, link, chain-older, link-is}
 use Rattle.arena.proofs.View.{good-pos}
+use Rattle.arena.proofs.Known.{B}
+use Rattle.arena.proofs.Built.{reads}
 use Rattle.arena.proofs.Flat.{length-cells, parse-on, parse-cells, parse-ext, ext-cells}
 use Rattle.arena.proofs.Formed.{absent-none, none-absent, fresh-wf, used-is, wf, cells-are, mark-is, below-of}
 use Rattle.arena.proofs.Read.{after-end, here-at}
@@ -120,13 +122,13 @@ module _ {c : List ℕ} {m q : ℕ} (M : Below c m) (B : Below c q) (h : q < m) 
 
 -- ---- the first three nodes
 
-pub fresh-below : (c : List ℕ) → 12 ≤ length c → length c ≤ 65536 → take 12 c ≡ cells fresh → Below c 12
+pub fresh-below : (c : List ℕ) → fewest ≤ length c → length c ≤ most → take fewest c ≡ cells fresh → Below c fewest
 fresh-below c l h e = below-of c 12 fresh l h (ap parse e ∙ parse-cells fresh) fresh-wf
 
-pub fresh-used : (c : List ℕ) → take 12 c ≡ cells fresh → used c 12 ≡ fresh
+pub fresh-used : (c : List ℕ) → take fewest c ≡ cells fresh → used c fewest ≡ fresh
 fresh-used c e = used-is c 12 fresh (ap parse e ∙ parse-cells fresh)
 
-pub must-fresh : {c : List ℕ} {m : ℕ} → Below c m → take 12 c ≡ cells fresh
+pub must-fresh : {c : List ℕ} {m : ℕ} → Below c m → take fewest c ≡ cells fresh
 must-fresh {c} {m} B =
     let x = ext-cells (wf B .base) in
     let l = length-cells fresh in

@@ -5,18 +5,18 @@ use native.Mathlib.Omega.{arith}
 use mathlib.Core.Bool.{true}
 use mathlib.Core.Logic.{_⊎_, inl, inr}
 use mathlib.Core.List.{List, [], _∷_, map}
-use lib.ListN.{length, getD}
+use lib.ListN.{length}
 use lib.Dec.{ltb}
-use borrow.Author.Tests.{eqb-true, lt-ltb, ltb-true}
+use borrow.Author.Tests.{eqb-true, ltb-true}
 use Rattle.arena.specs.Lists.{all, mem?, evens, odds}
 use Rattle.arena.specs.Nodes.{Nodes, nodeAt, kindAt, typeAt, parAt, memAt, argAt, args}
 use Rattle.arena.specs.WellFormed.{fieldRun, isType, typeTest}
 use Rattle.arena.specs.Values.{Ty, tbool, tbv, topt, tset, trec}
 use Rattle.arena.specs.Meaning.{recTy, mkTy, tyNode, tyOf}
 use Rattle.arena.proofs.Bools.{every-all, branch, from}
-use Rattle.arena.proofs.Runs.{mem0, all-imp, mem-here, mem-there, all-mem}
+use Rattle.arena.proofs.Runs.{mem0, all-at, mem-here, mem-there, all-mem}
 use Rattle.arena.proofs.Ext.{node-kind}
-use Rattle.arena.proofs.Chain.{WF, type-kind, kind-type, type-below, placed-type, place-type, type-arg}
+use Rattle.arena.proofs.Chain.{WF, type-kind, kind-type, placed-type, args-below}
 use Rattle.arena.proofs.View.{args-plain, args-fields}
 use Rattle.arena.proofs.Put.{unique}
 use Rattle.arena.proofs.Types.{ty-at, type-test, ty-bv, one-mem, ty-opt, ty-set, ty-rec}
@@ -83,10 +83,6 @@ module _ {a : Nodes} (w : WF a) where
     test : (t k : ℕ) → kindAt a t ≡ k → 1 ≤ k → k ≤ 5 → (o : Nodes) × (typeTest o k (parAt a t) (memAt a t) (argAt a t 0) ≡ true)
     test t k e h j = type-test (w .chain) t k e h (omega arith)
 
-    -- a member of s is below s
-    low : (i : ℕ) → i < length (args (nodeAt a s)) → (isType a (getD (args (nodeAt a s)) i 0) ≡ true) × (getD (args (nodeAt a s)) i 0 < s)
-    low i h = type-arg (w .chain) s hs i h
-
     case1 : kindAt a s ≡ 1 → s ≡ t
     unfolding typeTest
     case1 h =
@@ -108,7 +104,7 @@ module _ {a : Nodes} (w : WF a) where
     elem-low h =
         let m = one-mem (w .chain) s h in
         let g : args (nodeAt a s) ≡ argAt a s 0 ∷ [] = args-plain (nodeAt a s) (λ z. not5 h z) (λ z. not21 h z) ∙ m in
-        subst (λ (r : List ℕ). getD r 0 0 < s) g (low 0 (subst (λ (r : List ℕ). 0 < length r) (sym g) (omega arith)) .1)
+        ltb-true (argAt a s 0) s (all-at (λ x. ltb x s) (argAt a s 0) [] (subst (λ (r : List ℕ). all (λ x. ltb x s) r ≡ true) g (args-below (w .chain) s (type-kind a s hs .0))) .0)
       where
         not5 : (kindAt a s ≡ 3) ⊎ (kindAt a s ≡ 4) → kindAt a s ≡ 5 → ⊥
         not5 (inl h) z = omega arith
@@ -170,11 +166,7 @@ module _ {a : Nodes} (w : WF a) where
         let v : trec (recTy (evens (memAt a s)) (map (tyOf a) (odds (memAt a s)))) ≡ trec (recTy (evens (memAt a t)) (map (tyOf a) (odds (memAt a t)))) =
         sym (ty-rec (w .chain) s h) ∙ e ∙ ty-rec (w .chain) t h' in
         let lows : all (λ z. ltb z s) (odds (memAt a s)) ≡ true =
-        let pl = place-type (w .chain) s hs in
-        let here = pl .here in
-        subst (λ (r : List ℕ). all (λ z. ltb z s) r ≡ true) (args-fields (nodeAt a s) (inl h))
-        (all-imp (isType (pl .older)) (λ z. ltb z s) (λ z k. let q = type-below (pl .older) z k in lt-ltb z s (omega arith)) (args (nodeAt a s))
-        (placed-type (pl .older) (nodeAt a s) (type-kind a s hs .1) (pl .good) .1)) in
+        subst (λ (r : List ℕ). all (λ z. ltb z s) r ≡ true) (args-fields (nodeAt a s) (inl h)) (args-below (w .chain) s (type-kind a s hs .0)) in
         one (eqb-true _ _ (x .1 .0) ∙ sym (eqb-true _ _ (y .1 .0)))
         (fields (memAt a s) (memAt a t) (eqb-true (length (memAt a s) % 2) 0 (every-all _ (x .1 .1 .0) .0)) (eqb-true (length (memAt a t) % 2) 0 (every-all _ (y .1 .1 .0) .0)) (cc)
         (λ z z' i i' u.

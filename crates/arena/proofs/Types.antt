@@ -8,7 +8,7 @@ use mathlib.Core.List.{List, [], _∷_, map}
 use lib.ListN.{getD}
 use borrow.Author.Tests.{eqb-true, leb-true, le-leb}
 use Rattle.arena.specs.Lists.{all, evens, odds}
-use Rattle.arena.specs.Nodes.{Node, node, Nodes, mark, over, nodeAt, kindAt, typeAt, parAt, memAt, argAt, args, keys, fresh}
+use Rattle.arena.specs.Nodes.{Node, node, Nodes, mark, over, nodeAt, kindAt, typeAt, parAt, memAt, argAt, positions, args, keys, fresh}
 use Rattle.arena.specs.WellFormed.{isType, typeTest, kindTest, goodNode}
 use Rattle.arena.specs.Values.{tbool, tbv, topt, tset, trec}
 use Rattle.arena.specs.Meaning.{recTy, mkTy, tyNode, tyOf}
@@ -57,19 +57,19 @@ module _ {a : Nodes} (c : Chain a) (t : ℕ) where
   one-mem (inr e) = mem1 (memAt a t) (eqb-true _ _ (every-all _ (type-test 4 e (omega arith) (omega arith) .1) .0))
 
   pub ty-opt : kindAt a t ≡ 3 → tyOf a t ≡ topt (tyOf a (argAt a t 0))
-  unfolding tyNode mkTy args
+  unfolding tyNode mkTy positions
   ty-opt e =
       ty-kind 3 e (omega arith) (omega arith)
       ∙ ap (λ (ms : List ℕ). topt (getD (map (tyOf a) ms) 0 tbool)) (one-mem (inl e))
 
   pub ty-set : kindAt a t ≡ 4 → tyOf a t ≡ tset (tyOf a (argAt a t 0))
-  unfolding tyNode mkTy args
+  unfolding tyNode mkTy positions
   ty-set e =
       ty-kind 4 e (omega arith) (omega arith)
       ∙ ap (λ (ms : List ℕ). tset (getD (map (tyOf a) ms) 0 tbool)) (one-mem (inr e))
 
   pub ty-rec : kindAt a t ≡ 5 → tyOf a t ≡ trec (recTy (evens (memAt a t)) (map (tyOf a) (odds (memAt a t))))
-  unfolding tyNode mkTy args keys
+  unfolding tyNode mkTy positions keys
   ty-rec e = ty-kind 5 e (omega arith) (omega arith)
 
   -- a width is 1 to 64
@@ -80,5 +80,5 @@ module _ {a : Nodes} (c : Chain a) (t : ℕ) where
       (leb-true _ _ (w .1 .0), leb-true _ _ (w .1 .1 .0))
 
 pub ty-bool : {a : Nodes} → Ext fresh a → tyOf a 0 ≡ tbool
-unfolding tyOf over tyNode mkTy args keys mark
+unfolding tyOf over tyNode mkTy positions keys mark
 ty-bool e = ty-ext e 0 (omega arith)

@@ -2,16 +2,16 @@
 use mathlib.Core.Path.{_≡_, refl, sym, _∙_, subst}
 use Prim.Native.Nat.{ℕ, zero, suc, _+_, _^_, _≤_, _<_}
 use native.Mathlib.Omega.{arith}
-use mathlib.Core.Bool.{true, false}
+use mathlib.Core.Bool.{true}
 use mathlib.Core.Logic.{_⊎_, inl, inr}
 use mathlib.Core.Option.{some}
 use mathlib.Core.List.{List, [], _∷_}
 use lib.ListN.{length, getD}
 use lib.Dec.{eqb}
-use borrow.Author.Tests.{ne-eqb, eqb-true, eqb-false, leb-true, leb-false, ltb-true, not-true}
+use borrow.Author.Tests.{ne-eqb, eqb-true, eqb-false, leb-true, leb-false, ltb-true}
 use Rattle.arena.specs.Lists.{every, all, sameList, odds, field, rising}
-use Rattle.arena.specs.Nodes.{Node, node, Nodes, kindAt, typeAt, parAt, memAt, argAt, args, fieldTypes}
-use Rattle.arena.specs.Walks.{hasSet}
+use Rattle.arena.specs.Nodes.{Node, node, Nodes, kindAt, typeAt, parAt, memAt, argAt, positions, args, fieldTypes}
+use Rattle.arena.specs.Walks.{setFree}
 use Rattle.arena.specs.WellFormed.{small, fieldRun, isType, isTerm, typeTest, makerTest, coreTest, bvTest, dataTest, kindTest, goodNode}
 use Rattle.arena.proofs.Bools.{t≢f, every-all, branch}
 use Rattle.arena.proofs.Runs.{mem0, mem1, mem2, mem3, all-get, holds-field}
@@ -27,7 +27,7 @@ pub data Is (a : Nodes) : Node → Type 0 where
   is-bool : Is a (node 1 0 0 [])
   is-bv : (w : ℕ) → 1 ≤ w → w ≤ 64 → Is a (node 2 0 w [])
   is-opt : (t : ℕ) → isType a t ≡ true → Is a (node 3 0 0 (t ∷ []))
-  is-set : (t : ℕ) → isType a t ≡ true → hasSet a t ≡ false → Is a (node 4 0 0 (t ∷ []))
+  is-set : (t : ℕ) → isType a t ≡ true → setFree a t ≡ true → Is a (node 4 0 0 (t ∷ []))
   is-rec : (r : List ℕ) → fieldRun r ≡ true → all (isType a) (odds r) ≡ true → Is a (node 5 0 0 r)
   is-blit : (v : ℕ) → v ≤ 1 → Is a (node 16 0 v [])
   is-lit : (t v : ℕ) → kindAt a t ≡ 2 → v < 2 ^ parAt a t → Is a (node 17 t v [])
@@ -58,13 +58,13 @@ pub data Is (a : Nodes) : Node → Type 0 where
 -- ---- members that are positions
 
 pub args-plain : (n : Node) → (n .kind ≡ 5 → ⊥) → (n .kind ≡ 21 → ⊥) → args n ≡ n .mem
-unfolding args
-args-plain n h k = rw (ne-eqb (n .kind) 5 h, ne-eqb (n .kind) 21 k, args)
+unfolding positions
+args-plain n h k = rw (ne-eqb (n .kind) 5 h, ne-eqb (n .kind) 21 k, positions)
 
 pub args-fields : (n : Node) → (n .kind ≡ 5) ⊎ (n .kind ≡ 21) → args n ≡ odds (n .mem)
-unfolding args
-args-fields n (inl h) = rw (h, args)
-args-fields n (inr h) = rw (h, args)
+unfolding positions
+args-fields n (inl h) = rw (h, positions)
+args-fields n (inr h) = rw (h, positions)
 
 -- ---- from the test to the case
 
@@ -93,7 +93,7 @@ module _ (a : Nodes) (n : Node) where
         as-is (eqb-true _ _ k) t (eqb-true _ _ (w .1 .0)) (mem1 _ l) (is-opt _ (first (eqb-true _ _ k) (omega arith) l)))
         (λ k3 e. branch _ _ _ e
         (λ k h. let w = every-all _ h in let l = eqb-true _ _ (w .0) in
-        as-is (eqb-true _ _ k) t (eqb-true _ _ (w .1 .0)) (mem1 _ l) (is-set _ (first (eqb-true _ _ k) (omega arith) l) (not-true _ (w .1 .1 .0))))
+        as-is (eqb-true _ _ k) t (eqb-true _ _ (w .1 .0)) (mem1 _ l) (is-set _ (first (eqb-true _ _ k) (omega arith) l) (w .1 .1 .0)))
         (λ k4 h. let w = every-all _ h in
         as-is (eqb-true _ _ (w .0)) t (eqb-true _ _ (w .1 .0)) refl
         (is-rec _ (w .1 .1 .0) (subst (λ (r : List ℕ). all (isType a) r ≡ true) (args-fields n (inl (eqb-true _ _ (w .0)))) p))))))

@@ -2,7 +2,7 @@
 use mathlib.Core.Path.{_≡_, refl, sym, ap, ap₂, _∙_, subst}
 use Prim.Native.Nat.{ℕ, _+_, _^_, _≤_, _<_}
 use native.Mathlib.Omega.{arith}
-use mathlib.Core.Bool.{true, not}
+use mathlib.Core.Bool.{true}
 use mathlib.Core.Logic.{_⊎_, inl, inr}
 use mathlib.Core.Option.{some}
 use mathlib.Core.List.{List, [], _∷_}
@@ -10,15 +10,16 @@ use lib.ListN.{length, getD}
 use lib.Dec.{eqb}
 use borrow.Author.Tests.{eq-eqb, ne-eqb, eqb-true, le-leb, lt-leb, lt-ltb}
 use Rattle.arena.specs.Lists.{every, all, sameList, odds, field}
-use Rattle.arena.specs.Nodes.{Node, node, Nodes, nodeAt, kindAt, typeAt, parAt, memAt, argAt, args, fieldTypes}
+use Rattle.arena.specs.Nodes.{Node, node, Nodes, nodeAt, kindAt, typeAt, parAt, memAt, argAt, positions, args, fieldTypes}
+use Rattle.arena.specs.Walks.{freeRule}
 use Rattle.arena.specs.WellFormed.{isType, isTerm, placed, typeTest, makerTest, coreTest, bvTest, dataTest, kindTest, goodNode}
 use Rattle.arena.proofs.Bools.{all-every}
 use Rattle.arena.proofs.Runs.{all-at, all0, all1, all2, all3, all-get, all-imp, all-imp2, field-holds, field-all}
-use Rattle.arena.proofs.Ext.{Ext, ext-older, node-ext, kind-known, node-kind, hasSet-ext}
-use Rattle.arena.proofs.Chain.{Chain, WF, place, kind-type, type-below, term-below, type-ext, term-ext, placed-term, placed-type}
+use Rattle.arena.proofs.Ext.{Ext, ext-older, node-ext, kind-known, node-kind, walked-ext}
+use Rattle.arena.proofs.Chain.{Chain, WF, place, kind-type, type-below, term-below, type-ext, term-ext, placed-term, type-arg}
 use Rattle.arena.proofs.View.{Tm, Is, is-bool, is-bv, is-opt, is-set, is-rec, is-blit, is-lit, is-none, is-some, is-sett, is-recd, is-var, is-not, is-and, is-or, is-eq, is-ite, is-uf, is-neg, is-bvn, is-nego, is-bvt, is-zext, is-mem, is-sub, is-int, is-get, is-fld, args-plain, view, tested}
-use Rattle.arena.proofs.Types.{one-mem}
 use Rattle.arena.proofs.Base.{tm-ext, bool-type, tm-type}
+use Rattle.arena.proofs.Types.{one-mem}
 
 module _ {o a : Nodes} (e : Ext o a) where
   at-ext : (t k : ℕ) → kindAt o t ≡ k → 1 ≤ k → nodeAt a t ≡ nodeAt o t
@@ -42,7 +43,7 @@ module _ {o a : Nodes} (e : Ext o a) where
   is-ext is-bool = is-bool
   is-ext (is-bv w p q) = is-bv w p q
   is-ext (is-opt t p) = is-opt t (type-ext e t p)
-  is-ext (is-set t p q) = is-set t (type-ext e t p) (hasSet-ext e t (type-below o t p) ∙ q)
+  is-ext (is-set t p q) = is-set t (type-ext e t p) (walked-ext freeRule e t (type-below o t p) ∙ q)
   is-ext (is-rec r p q) = is-rec r p (all-imp (isType o) (isType a) (λ x h. type-ext e x h) (odds r) q)
   is-ext (is-blit v p) = is-blit v p
   is-ext (is-lit t v h p) = is-lit t v (kind-ext t 2 h (omega arith)) (subst (λ (n : Node). v < 2 ^ (n .par)) (sym (at-ext t 2 h (omega arith))) p)
@@ -111,21 +112,17 @@ module _ {a : Nodes} (w : WF a) where
 
   -- the members of a type are types
   type-args : (t k : ℕ) → kindAt a t ≡ k → 1 ≤ k → k ≤ 15 → all (isType a) (args (node k (typeAt a t) (parAt a t) (memAt a t))) ≡ true
-  type-args t k h l m =
-      let pl = place (w .chain) t (omega arith) in
-      let n = node k (typeAt a t) (parAt a t) (memAt a t) in
-      all-imp (isType (pl .older)) (isType a) (λ x z. type-ext (ext-older (pl .ext)) x z) (args n)
-      (placed-type (pl .older) n m (subst (λ (z : Node). goodNode (pl .older) z ≡ true) (node-kind a t k h) (pl .good)) .1)
+  type-args t k h l m = subst (λ (n : Node). all (isType a) (args n) ≡ true) (node-kind a t k h) (type-arg (w .chain) t (kind-type a t k h l m))
 
   -- the element of an Option or a Set
   pub elem-type : (t : ℕ) → (kindAt a t ≡ 3) ⊎ (kindAt a t ≡ 4) → isType a (argAt a t 0) ≡ true
-  unfolding args
+  unfolding positions
   elem-type t (inl h) = all-at (isType a) (argAt a t 0) [] (subst (λ (r : List ℕ). all (isType a) r ≡ true) (one-mem (w .chain) t (inl h)) (type-args t 3 h (omega arith) (omega arith))) .0
   elem-type t (inr h) = all-at (isType a) (argAt a t 0) [] (subst (λ (r : List ℕ). all (isType a) r ≡ true) (one-mem (w .chain) t (inr h)) (type-args t 4 h (omega arith) (omega arith))) .0
 
   -- the fields of a Record
   pub fields-type : (t : ℕ) → kindAt a t ≡ 5 → all (isType a) (odds (memAt a t)) ≡ true
-  unfolding args
+  unfolding positions
   fields-type t h = type-args t 5 h (omega arith) (omega arith)
 
   pub field-type : (t k u : ℕ) → kindAt a t ≡ 5 → field (memAt a t) k ≡ some u → isType a u ≡ true
@@ -138,15 +135,15 @@ module _ {a : Nodes} (w : WF a) where
   bv-good n x y e lo hi t mx my g =
       all-every _ (pl, (rw (lt-leb (n .kind) 15 (omega arith), lt-leb (n .kind) 99 (omega arith), lt-leb (n .kind) 129 (omega arith), le-leb (n .kind) 149 hi, kindTest, e) g, tt))
     where
-      pl : placed a n ≡ true
+      pl : placed a (n .kind) (n .type) (n .mem) ≡ true
       pl = unfold placed in rw (lt-leb (n .kind) 15 (omega arith), args-plain n (λ z. omega arith) (λ z. omega arith), placed, e) (p2 (n .type) x y t mx my)
 
   pub good-is : {n : Node} → Is a n → goodNode a n ≡ true
-  unfolding goodNode placed kindTest typeTest makerTest coreTest bvTest dataTest args
+  unfolding goodNode placed kindTest typeTest makerTest coreTest bvTest dataTest positions
   good-is is-bool = all-every _ (all-every _ (refl, (all0 (isType a), tt)), (all-every _ (refl, (refl, tt)), tt))
   good-is (is-bv k p q) = all-every _ (all-every _ (refl, (all0 (isType a), tt)), (all-every _ (refl, (le-leb 1 k p, (le-leb k 64 q, tt))), tt))
   good-is (is-opt t p) = all-every _ (all-every _ (refl, (all1 (isType a) t p, tt)), (all-every _ (refl, (refl, tt)), tt))
-  good-is (is-set t p q) = all-every _ (all-every _ (refl, (all1 (isType a) t p, tt)), (all-every _ (refl, (refl, (ap not q, tt))), tt))
+  good-is (is-set t p q) = all-every _ (all-every _ (refl, (all1 (isType a) t p, tt)), (all-every _ (refl, (refl, (q, tt))), tt))
   good-is (is-rec r p q) = all-every _ (all-every _ (refl, (q, tt)), (all-every _ (refl, (refl, (p, tt))), tt))
   good-is (is-blit v p) = all-every _ (p0 0 (bool-type w), (all-every _ (refl, (le-leb v 1 p, (refl, tt))), tt))
   good-is (is-lit t v h p) = all-every _ (p0 t (kt t 2 h (omega arith) (omega arith)), (all-every _ (refl, (eq-eqb (kindAt a t) 2 h, (lt-ltb v (2 ^ parAt a t) p, tt))), tt))

@@ -1,25 +1,26 @@
--- Lent cells made fresh, and cleared from a mark on.
+-- What arrays lent to a walk say of an arena's nodes. Nodes are four cells apart or more, so that entry p / 4 is the own entry of a node at p.
 use mathlib.Core.Path.{_≡_}
-use Prim.Native.Nat.{ℕ, _-_}
-use mathlib.Core.Bool.{cond}
-use mathlib.Core.List.{List, _++_}
-use lib.ListN.{length, take, replicate}
-use Rattle.arena.specs.Lists.{within}
-use Rattle.arena.specs.Nodes.{mark, fresh}
-use Rattle.arena.specs.Cells.{padded}
-use Rattle.arena.specs.WellFormed.{fewest, most}
+use mathlib.Core.Bool.{Bool, true}
+use mathlib.Core.List.{List}
+use Prim.Native.Nat.{ℕ, _+_, _*_, _/_, _%_, _≤_}
+use lib.ListN.{length, getD}
+use Rattle.arena.specs.Nodes.{Nodes, mark, kindAt}
+use Rattle.arena.specs.Cells.{used, after}
+use Rattle.arena.specs.WellFormed.{Below}
 
--- the cells below m, and zeros
-abbrev pub cleared : List ℕ → ℕ → List ℕ
-cleared c m = take m c ++ replicate (length c - m) 0
+-- where nodes start: the entry is p % 4 + 1 for each start p
+pub record Starts (a : Nodes) (f : List ℕ) : Type 0 where
+  pub long : mark a ≤ 4 * length f
+  pub yes : (p : ℕ) → 1 ≤ kindAt a p → getD f (p / 4) 0 ≡ p % 4 + 1
+  pub no : (p : ℕ) → getD f (p / 4) 0 ≡ p % 4 + 1 → 1 ≤ kindAt a p
 
--- a length that is allowed gives the mark and the cells of a fresh arena; else the answer is 0 and nothing changes
-unfoldable pub freshMark : List ℕ → ℕ
-freshMark c = cond (within fewest most (length c)) (mark fresh) 0
+-- the cells below q are an arena, `f` says where its nodes start, and the cells of one more node stand at q
+pub record Ready (c : List ℕ) (q : ℕ) (f : List ℕ) : Type 0 where
+  pub below : Below c q
+  pub starts : Starts (used c q) f
+  pub here : after c q ≤ length c
 
-unfoldable pub freshCells : List ℕ → List ℕ
-freshCells c = cond (within fewest most (length c)) (padded (length c) fresh) c
-
-pub record Freshened (c : List ℕ) (r : ℕ) (c' : List ℕ) : Type 0 where
-  pub marked : r ≡ freshMark c
-  pub left : c' ≡ freshCells c
+-- what is sure: a node whose entry is 1 passes the test
+pub record Sure (a : Nodes) (test : ℕ → Bool) (f : List ℕ) : Type 0 where
+  pub long : mark a ≤ 4 * length f
+  pub holds : (p : ℕ) → 1 ≤ kindAt a p → getD f (p / 4) 0 ≡ 1 → test p ≡ true

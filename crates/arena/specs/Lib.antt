@@ -4,7 +4,8 @@ pub mod Nodes
 pub mod Cells
 pub mod Walks
 pub mod WellFormed
+pub mod Lent
 pub mod Values
 pub mod Meaning
-pub mod Lent
+pub mod Fresh
 pub mod Did

@@ -73,9 +73,12 @@ widthAt a x = parAt a (typeAt a x)
 abbrev pub paired : ℕ → Bool
 paired k = eqb k 5 || eqb k 21
 
--- a node's members that are positions
-unfoldable pub args : Node → List ℕ
-args n = cond (paired (n .kind)) (odds (n .mem)) (n .mem)
+-- the members that are positions, of a node of kind k
+unfoldable pub positions : ℕ → List ℕ → List ℕ
+positions k ms = cond (paired k) (odds ms) ms
+
+abbrev pub args : Node → List ℕ
+args n = positions (n .kind) (n .mem)
 
 -- and those that are attributes
 unfoldable pub keys : Node → List ℕ

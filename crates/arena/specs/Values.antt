@@ -1,5 +1,5 @@
 -- Types by structure, values, a total order of values, and finite sets as strictly rising runs of values, so that equal sets are equal values.
-use Prim.Native.Nat.{ℕ, zero, suc, _^_, compare, Ordering, Ordering·lt, Ordering·eq, Ordering·gt}
+use Prim.Native.Nat.{ℕ, _^_, compare, Ordering, Ordering·lt, Ordering·eq, Ordering·gt}
 use mathlib.Core.Bool.{Bool, true, false, cond, _&&_, _||_}
 use mathlib.Core.List.{List, [], _∷_}
 use lib.Dec.{eqb, ltb}

@@ -1,20 +1,35 @@
--- The two tests that recurse over members: is a term a literal, does a type contain a set.
+-- The two tests that recurse over members, in one form: is a term a literal, is a type free of sets.
 use Prim.Native.Nat.{ℕ}
 use mathlib.Core.Bool.{Bool, true, false, cond}
 use lib.Dec.{eqb, leb}
-use Rattle.arena.specs.Lists.{all, any}
+use Rattle.arena.specs.Lists.{all}
 use Rattle.arena.specs.Nodes.{Node, Nodes, over, args}
 
+-- what a rule says of a kind: it passes, it fails, or its members are asked
+pub data Verdict : Type 0 where
+  pass fail ask : Verdict
+
+abbrev pub said : Verdict → Bool → Bool
+said pass b = true
+said fail b = false
+said ask b = b
+
+unfoldable pub ruled : (ℕ → Verdict) → Nodes → (ℕ → Bool) → Node → Bool
+ruled r a f n = said (r (n .kind)) (all f (args n))
+
+unfoldable pub walked : (ℕ → Verdict) → Nodes → ℕ → Bool
+walked r = over false (ruled r)
+
 -- bool and bitvec literals and None are literals; Some, Set and Record where all their terms are
-unfoldable pub litNode : Nodes → (ℕ → Bool) → Node → Bool
-litNode a f n = cond (leb (n .kind) 18) (leb 16 (n .kind)) (cond (leb (n .kind) 21) (all f (args n)) false)
+unfoldable pub litRule : ℕ → Verdict
+litRule k = cond (leb k 18) (cond (leb 16 k) pass fail) (cond (leb k 21) ask fail)
 
-unfoldable pub isLit : Nodes → ℕ → Bool
-isLit = over false litNode
+abbrev pub isLit : Nodes → ℕ → Bool
+isLit = walked litRule
 
--- a Set, or an Option or a Record with a set in it
-unfoldable pub setNode : Nodes → (ℕ → Bool) → Node → Bool
-setNode a f n = cond (eqb (n .kind) 4) true (cond (leb (n .kind) 5) (any f (args n)) false)
+-- no Set, at any depth
+unfoldable pub freeRule : ℕ → Verdict
+freeRule k = cond (eqb k 4) fail (cond (leb k 5) ask fail)
 
-unfoldable pub hasSet : Nodes → ℕ → Bool
-hasSet = over false setNode
+abbrev pub setFree : Nodes → ℕ → Bool
+setFree = walked freeRule

@@ -1,15 +1,15 @@
 -- When an arena is well formed, clause by clause as document 01 says it. Every test computes.
 use mathlib.Core.Path.{_≡_}
 use Prim.Native.Nat.{ℕ, _+_, _^_, _%_, _≤_}
-use mathlib.Core.Bool.{Bool, true, false, not, cond, _||_}
-use mathlib.Core.Option.{Option, none, some}
+use mathlib.Core.Bool.{Bool, true, false, cond, _||_}
+use mathlib.Core.Option.{none, some}
 use mathlib.Core.List.{List, [], _∷_}
 use lib.ListN.{length, getD, take, drop}
 use lib.Dec.{eqb, leb, ltb}
 use Rattle.arena.specs.Lists.{every, within, all, sameList, evens, holdsField, rising}
-use Rattle.arena.specs.Nodes.{Node, node, Nodes, kindAt, typeAt, parAt, memAt, argAt, elemAt, widthAt, args, fieldTypes, same, find, fresh}
+use Rattle.arena.specs.Nodes.{Node, node, Nodes, kindAt, typeAt, parAt, memAt, argAt, elemAt, widthAt, positions, fieldTypes, same, find}
 use Rattle.arena.specs.Cells.{parse, used}
-use Rattle.arena.specs.Walks.{hasSet}
+use Rattle.arena.specs.Walks.{setFree}
 
 -- ---- limits
 
@@ -38,11 +38,11 @@ isType a p = within 1 15 (kindAt a p)
 abbrev pub isTerm : Nodes → ℕ → Bool
 isTerm a p = leb 16 (kindAt a p)
 
--- a node over the nodes before it: a type has type cell 0 and types as members, a term has a type and terms
-unfoldable pub placed : Nodes → Node → Bool
-placed a n =
-    cond (leb (n .kind) 15) (every (eqb (n .type) 0 ∷ all (isType a) (args n) ∷ []))
-    (every (isType a (n .type) ∷ all (isTerm a) (args n) ∷ []))
+-- a node of kind k, type cell t and members ms over the nodes before it: a type has type cell 0 and types as members, a term has a type and terms
+unfoldable pub placed : Nodes → ℕ → ℕ → List ℕ → Bool
+placed a k t ms =
+    cond (leb k 15) (every (eqb t 0 ∷ all (isType a) (positions k ms) ∷ []))
+    (every (isType a t ∷ all (isTerm a) (positions k ms) ∷ []))
 
 -- ---- types, counts and parameters: tests on a node's numbers, k its kind, t its type, p its parameter, ms its members, x y z the first three
 
@@ -64,7 +64,7 @@ typeTest a k p ms x =
     cond (eqb k 1) (every (eqb (length ms) 0 ∷ eqb p 0 ∷ []))
     (cond (eqb k 2) (every (eqb (length ms) 0 ∷ leb 1 p ∷ leb p 64 ∷ []))
     (cond (eqb k 3) (every (eqb (length ms) 1 ∷ eqb p 0 ∷ []))
-    (cond (eqb k 4) (every (eqb (length ms) 1 ∷ eqb p 0 ∷ not (hasSet a x) ∷ []))
+    (cond (eqb k 4) (every (eqb (length ms) 1 ∷ eqb p 0 ∷ setFree a x ∷ []))
     (every (eqb k 5 ∷ eqb p 0 ∷ fieldRun ms ∷ [])))))
 
 -- 16 bool literal, 17 bitvec literal, 18 None, 19 Some, 20 Set, 21 Record, 22 variable
@@ -118,7 +118,7 @@ kindTest a k t p ms x y z =
 -- a node over the nodes before it
 unfoldable pub goodNode : Nodes → Node → Bool
 goodNode a n =
-    every (placed a n ∷ kindTest a (n .kind) (n .type) (n .par) (n .mem) (getD (n .mem) 0 0) (getD (n .mem) 1 0) (getD (n .mem) 2 0) ∷ [])
+    every (placed a (n .kind) (n .type) (n .mem) ∷ kindTest a (n .kind) (n .type) (n .par) (n .mem) (getD (n .mem) 0 0) (getD (n .mem) 1 0) (getD (n .mem) 2 0) ∷ [])
 
 -- ---- the whole arena
 
@@ -167,9 +167,9 @@ formed c m = every (within fewest most (length c) ∷ leb m (length c) ∷ fille
 
 -- the cells below m are a well-formed arena
 pub record Below (c : List ℕ) (m : ℕ) : Type 0 where
-  pub least : 12 ≤ m
+  pub least : fewest ≤ m
   pub fits : m ≤ length c
-  pub short : length c ≤ 65536
+  pub short : length c ≤ most
   pub reads : parse (take m c) ≡ some (used c m)
   pub well : wellFormed (used c m) ≡ true
 

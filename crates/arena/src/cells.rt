@@ -8,7 +8,7 @@ ghost use lib.ListN.{length};
 ghost use Rattle.arena.specs.Nodes.{kindAt, typeAt, parAt, memAt, argAt};
 ghost use Rattle.arena.specs.Cells.{used};
 ghost use Rattle.arena.specs.WellFormed.{Below, isTerm, isType};
-ghost use Rattle.arena.specs.Lent.{cleared, Freshened};
+ghost use Rattle.arena.specs.Fresh.{cleared, Freshened};
 
 // Zeros from the mark on: where no cell below it changed, the arena is as it was.
 pub fn clear_back(cells: &mut [u64], mark: usize)

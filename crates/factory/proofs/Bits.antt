@@ -3,7 +3,7 @@ use mathlib.Core.Path.{_≡_, refl, sym, ap, ap₂, _∙_, subst}
 use Prim.Native.Nat.{ℕ, _+_, _-_, _^_, _≤_, _<_}
 use native.Mathlib.Omega.{arith}
 use mathlib.Core.Bool.{Bool, true, false, cond, _&&_}
-use mathlib.Core.List.{List, [], _∷_}
+use mathlib.Core.List.{[], _∷_}
 use lib.Dec.{eqb}
 use borrow.Author.Tests.{eqb-true}
 use Rattle.bitvec.specs.Theory.{bvneg}
@@ -16,7 +16,6 @@ use Rattle.arena.specs.Nodes.{Node, node, Nodes, kindAt, typeAt, parAt, argAt, 
 use Rattle.arena.specs.Values.{Ty, tbool, tbv, Value, bool, bits, asBits}
 use Rattle.arena.specs.Meaning.{tyOf, tyAt, width, Interp, Good, bvMeans, term, meanNode, meaning}
 use Rattle.arena.proofs.Bools.{t≢f, and-l, and-r}
-use Rattle.arena.proofs.Ext.{Ext}
 use Rattle.arena.proofs.Chain.{WF}
 use Rattle.arena.proofs.View.{Tm, is-bv, is-neg, is-bvn, is-nego, is-bvt, is-zext}
 use Rattle.arena.proofs.Types.{ty-bool, ty-bv, width-range}

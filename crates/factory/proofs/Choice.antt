@@ -4,19 +4,20 @@ use Prim.Native.Nat.{ℕ}
 use native.Mathlib.Omega.{arith}
 use mathlib.Core.Bool.{Bool, true, false, not, cond, _&&_, _||_}
 use mathlib.Core.Logic.{_⊎_, inl, inr}
-use mathlib.Core.List.{List, [], _∷_}
+use mathlib.Core.List.{[], _∷_}
 use lib.Dec.{eqb}
 use borrow.Author.Tests.{eqb-true}
-use Rattle.arena.specs.Nodes.{F, T, node, Nodes, kindAt, typeAt, argAt, elemAt, args, Out, out}
-use Rattle.arena.specs.Values.{Ty, tbool, topt, Value, bool, vsome, asBool}
-use Rattle.arena.specs.Meaning.{tyOf, tyAt, Interp, Good, coreMeans, term, meanNode, meaning}
+use Rattle.arena.specs.Nodes.{F, T, node, Nodes, kindAt, typeAt, argAt, args}
+use Rattle.arena.specs.Walks.{isLit}
+use Rattle.arena.specs.Values.{Ty, tbool, Value, bool, vsome, asBool}
+use Rattle.arena.specs.Meaning.{Interp, coreMeans, term, meanNode, meaning}
 use Rattle.arena.proofs.Bools.{and-l, and-r, or-cases, or-false-l}
 use Rattle.arena.proofs.Chain.{WF}
 use Rattle.arena.proofs.View.{is-ite}
 use Rattle.arena.proofs.Sound.{bool-at}
-use Rattle.arena.proofs.Known.{Lit, B, some-node, no-lit}
-use Rattle.factory.specs.Makers.{boolAt, someOf}
-use Rattle.factory.specs.Core.{notT, andT, orT, iteSimplify, iteT}
+use Rattle.arena.proofs.Known.{Lit, B, some-node, lit-bool, no-lit}
+use Rattle.factory.specs.Makers.{boolAt}
+use Rattle.factory.specs.Core.{iteSimplify, iteT}
 use Rattle.factory.specs.Meanings.{means25}
 use Rattle.factory.proofs.Law.{Typed, tm-typed, bool-tm, same-tm, Law, stay, applied, reads, retyped, onward, law-if}
 use Rattle.factory.proofs.Made.{bool-at-means, some-law}
@@ -63,13 +64,25 @@ module _ {a : Nodes} (w : WF a) {y : Ty} (g t u : ℕ) (k : Typed a tbool g) (m 
   first I (inl e) = rw (eqb-true g T e, bool-at-means w I true)
   first I (inr e) = rw (← eqb-true t u e) (pick-same (B I a g) (meaning I a t))
 
-  simplify-law : Law a (Lit a g × Lit a t × Lit a u) y (λ I. means25 (meaning I a g) (meaning I a t) (meaning I a u)) (iteSimplify a g t u)
+  -- the guard is a literal, and so is the arm that it chooses
+  abbrev Chosen : Type 0
+  Chosen = Lit a g × (g ≡ T → Lit a t) × (g ≡ F → Lit a u)
+
+  chosen-first : (eqb g T ≡ true) ⊎ (eqb t u ≡ true) → Chosen → Lit a t
+  chosen-first (inl e) l = l .1 (eqb-true g T e)
+  chosen-first (inr e) l = go (lit-bool w g (bool-tm w k) (l .0))
+    where
+      go : (g ≡ F) ⊎ (g ≡ T) → Lit a t
+      go (inl q) = ap (isLit a) (eqb-true t u e) ∙ l .2 q
+      go (inr q) = l .1 q
+
+  simplify-law : Law a Chosen y (λ I. means25 (meaning I a g) (meaning I a t) (meaning I a u)) (iteSimplify a g t u)
   unfolding iteSimplify asBool meanNode term coreMeans args
   simplify-law =
       law-if (eqb g T || eqb t u) _ _
-      (λ e. stay t w m (λ I G. first I (or-cases (eqb g T) (eqb t u) e)) (λ l. l .1))
+      (λ e. let c = or-cases (eqb g T) (eqb t u) e in stay t w m (λ I G. first I c) (chosen-first c))
       (λ e1. law-if (eqb g F) _ _
-      (λ e. stay u w n (λ I G. rw (eqb-true g F e, bool-at-means w I false)) (λ l. l .2))
+      (λ e. stay u w n (λ I G. rw (eqb-true g F e, bool-at-means w I false)) (λ l. l .2 (eqb-true g F e)))
       (λ e2. law-if (eqb t T && eqb u F) _ _
       (λ e. let tT = eqb-true t T (and-l _ _ e) in let uF = eqb-true u F (and-r (eqb t T) _ e) in
       retyped (sym (bool-type-of w true t tT m)) (holds w g k (λ I G. pick-tf (B I a g) ∙ arms I (lit-arm I true t tT) (lit-arm I false u uF)) (λ l. l .0)))
@@ -78,18 +91,22 @@ module _ {a : Nodes} (w : WF a) {y : Ty} (g t u : ℕ) (k : Typed a tbool g) (m 
       retyped (sym (bool-type-of w false t tF m)) (reads (not-law w g k) (λ l. l .0) (λ I G. pick-ft (B I a g) ∙ arms I (lit-arm I false t tF) (lit-arm I true u uT))))
       (λ e4. law-if (eqb u F) _ _
       (λ e. let uF = eqb-true u F e in let q = bool-type-of w false u uF n in let m' = as-bool w q m in
-      retyped (sym q) (reads (and-law w g t k m') (λ l. (l .0, l .1)) (λ I G. pick-and (B I a g) (B I a t) ∙ arms I (bool-at I G w t (bool-tm w m')) (lit-arm I false u uF))))
+      retyped (sym q) (reads (and-law w g t k m') (λ l. no e1 e2 (l .0)) (λ I G. pick-and (B I a g) (B I a t) ∙ arms I (bool-at I G w t (bool-tm w m')) (lit-arm I false u uF))))
       (λ e5. law-if (eqb t T) _ _
       (λ e. let tT = eqb-true t T e in let q = bool-type-of w true t tT m in let n' = as-bool w q n in
-      retyped (sym q) (reads (or-law w g u k n') (λ l. (l .0, l .2)) (λ I G. pick-or (B I a g) (B I a u) ∙ arms I (lit-arm I true t tT) (bool-at I G w u (bool-tm w n')))))
+      retyped (sym q) (reads (or-law w g u k n') (λ l. no e1 e2 (l .0)) (λ I G. pick-or (B I a g) (B I a u) ∙ arms I (lit-arm I true t tT) (bool-at I G w u (bool-tm w n')))))
       (λ e6. applied (node 125 (typeAt a t) 0 (g ∷ t ∷ u ∷ [])) w (omega arith)
       (is-ite (typeAt a t) g t u (bool-tm w k) (record { isterm = m .isterm; typed = refl }) (same-tm w m n)) (m .typed)
-      (λ l. no-lit w g (bool-tm w k) (or-false-l _ _ e1) e2 (l .0))))))))
+      (λ l. no e1 e2 (l .0))))))))
+    where
+      no : {X : Type 0} → (eqb g T || eqb t u) ≡ false → eqb g F ≡ false → Lit a g → X
+      no e1 e2 l = no-lit w g (bool-tm w k) (or-false-l _ _ e1) e2 l
 
-pub ite-law : {a : Nodes} → WF a → {y : Ty} (g t u : ℕ) → Typed a tbool g → Typed a y t → Typed a y u
-    → Law a (Lit a g × Lit a t × Lit a u) y (λ I. means25 (meaning I a g) (meaning I a t) (meaning I a u)) (iteT a g t u)
+-- a literal where the guard and the arm that it chooses are
+pub chosen-law : {a : Nodes} → WF a → {y : Ty} (g t u : ℕ) → Typed a tbool g → Typed a y t → Typed a y u
+    → Law a (Lit a g × (g ≡ T → Lit a t) × (g ≡ F → Lit a u)) y (λ I. means25 (meaning I a g) (meaning I a t) (meaning I a u)) (iteT a g t u)
 unfolding iteT
-ite-law {a} w {y} g t u k m n =
+chosen-law {a} w {y} g t u k m n =
     law-if (eqb (kindAt a t) 19 && eqb (kindAt a u) 19) _ _
     (λ e.
     let kt = eqb-true (kindAt a t) 19 (and-l _ _ e) in
@@ -99,6 +116,10 @@ ite-law {a} w {y} g t u k m n =
     let z = some-node w u ku in
     let l = simplify-law w g (argAt a t 0) (argAt a u 0) k (tm-typed refl (x .under)) (some-inner w u ku (record { isterm = n .isterm; typed = n .typed ∙ q })) in
     let o = iteSimplify a g (argAt a t 0) (argAt a u 0) in
-    retyped (sym q) (onward (l .ext) (reads (some-law (l .wf) (o .at) (l .typed)) (λ h. l .lit (h .0, x .lits (h .1), z .lits (h .2)))
+    retyped (sym q) (onward (l .ext) (reads (some-law (l .wf) (o .at) (l .typed)) (λ h. l .lit (h .0, (λ q. x .lits (h .1 q)), (λ q. z .lits (h .2 q))))
     (λ I G. ap vsome (l .means I G) ∙ pick-some (B I a g) _ _ ∙ ap₂ (λ (p q : Value). cond (B I a g) p q) (sym (x .means I)) (sym (z .means I))))))
     (λ e. simplify-law w g t u k m n)
+
+pub ite-law : {a : Nodes} → WF a → {y : Ty} (g t u : ℕ) → Typed a tbool g → Typed a y t → Typed a y u
+    → Law a (Lit a g × Lit a t × Lit a u) y (λ I. means25 (meaning I a g) (meaning I a t) (meaning I a u)) (iteT a g t u)
+ite-law w g t u k m n = reads (chosen-law w g t u k m n) (λ l. (l .0, (λ q. l .1), (λ q. l .2))) (λ I G. refl)

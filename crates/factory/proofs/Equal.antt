@@ -4,10 +4,10 @@ use Prim.Native.Nat.{ℕ}
 use native.Mathlib.Omega.{arith}
 use mathlib.Core.Bool.{Bool, true, false, not, cond, _&&_, _||_}
 use mathlib.Core.Logic.{_⊎_, inl, inr}
-use mathlib.Core.List.{List, [], _∷_}
+use mathlib.Core.List.{[], _∷_}
 use lib.Dec.{eqb}
 use borrow.Author.Tests.{eqb-true, eqb-false}
-use Rattle.arena.specs.Nodes.{F, T, node, Nodes, kindAt, typeAt, argAt, elemAt, args, Out, out}
+use Rattle.arena.specs.Nodes.{F, T, node, Nodes, kindAt, typeAt, argAt, elemAt, args}
 use Rattle.arena.specs.Walks.{isLit}
 use Rattle.arena.specs.Values.{Ty, tbool, topt, Value, bool, vnone, vsome, code, compareT, compareV, eqV}
 use Rattle.arena.specs.Meaning.{tyOf, tyAt, Interp, Good, coreMeans, term, meanNode, meaning}
@@ -20,7 +20,7 @@ use Rattle.arena.proofs.Sound.{bool-at}
 use Rattle.arena.proofs.Canon.{canon}
 use Rattle.arena.proofs.Known.{Lit, B, none-means, some-node}
 use Rattle.factory.specs.Makers.{boolAt}
-use Rattle.factory.specs.Core.{notT, eqSimplify, eqT}
+use Rattle.factory.specs.Core.{eqSimplify, eqT}
 use Rattle.factory.specs.Meanings.{means24}
 use Rattle.factory.proofs.Law.{Typed, tm-typed, bool-tm, tm-bool, same-tm, opt-elem, Law, applied, reads, law-if}
 use Rattle.factory.proofs.Made.{bool-at-tm, bool-at-means, says}

@@ -3,22 +3,21 @@ use mathlib.Core.Path.{_≡_, refl, sym, ap, ap₂, _∙_}
 use Prim.Native.Nat.{ℕ, _%_, _≤_}
 use native.Mathlib.Omega.{arith}
 use mathlib.Core.Bool.{Bool, true, false, cond}
-use mathlib.Core.Logic.{_⊎_, inl, inr}
 use mathlib.Core.List.{List, [], _∷_, map}
 use lib.ListN.{length}
 use lib.Dec.{eqb, ltb}
 use borrow.Author.Tests.{eqb-true, eq-eqb}
 use Rattle.arena.specs.Lists.{all, sameList, evens, odds, sorted, putField, fieldsOf}
-use Rattle.arena.specs.Nodes.{Node, node, Nodes, kindAt, typeAt, memAt, argAt, args, keys, fieldTypes, put, Out}
+use Rattle.arena.specs.Nodes.{Node, node, Nodes, kindAt, typeAt, memAt, argAt, args, keys, fieldTypes}
 use Rattle.arena.specs.Walks.{litNode, isLit, hasSet}
 use Rattle.arena.specs.WellFormed.{small, fieldRun, isType, isTerm}
-use Rattle.arena.specs.Values.{Ty, tset, trec, Value, vset, vrec, VFields, fnil, fcons, setV, recV}
-use Rattle.arena.specs.Meaning.{recTy, tyOf, tyAt, Interp, makerMeans, term, meanNode, meaning}
+use Rattle.arena.specs.Values.{Ty, tset, trec, Value, vset, vrec, VFields, fcons, recV}
+use Rattle.arena.specs.Meaning.{recTy, tyOf, tyAt, makerMeans, term, meanNode, meaning}
 use Rattle.arena.proofs.Bools.{every-all}
 use Rattle.arena.proofs.Runs.{all-at, all-imp2, same-refl}
 use Rattle.arena.proofs.Ext.{Ext, ty-ext}
 use Rattle.arena.proofs.Chain.{WF, type-below, term-type}
-use Rattle.arena.proofs.View.{Tm, is-set, is-rec, is-sett, is-recd}
+use Rattle.arena.proofs.View.{is-set, is-rec, is-sett, is-recd}
 use Rattle.arena.proofs.Types.{ty-set, ty-rec}
 use Rattle.arena.proofs.Base.{tm-ext}
 use Rattle.arena.proofs.Whole.{fieldTypes-ext}
@@ -30,7 +29,7 @@ use Rattle.factory.specs.Makers.{setType, recordType, setOf, recordOf}
 use Rattle.factory.specs.Meanings.{means14, putV, listedV, means15}
 use Rattle.factory.proofs.Law.{Law, added, reads, onward}
 use Rattle.factory.proofs.Lists.{means-old, lits-old, terms-old}
-use Rattle.factory.proofs.Made.{Holder, holder}
+use Rattle.factory.proofs.Made.{holder}
 
 -- ---- 14 set
 

@@ -1,19 +1,18 @@
 -- The laws of 20 not, 21 and, 22 or, 23 implies.
-use mathlib.Core.Path.{_≡_, refl, sym, ap, ap₂, _∙_}
-use Prim.Native.Nat.{ℕ, _+_, _≤_}
+use mathlib.Core.Path.{_≡_, refl, sym, ap, _∙_}
+use Prim.Native.Nat.{ℕ}
 use native.Mathlib.Omega.{arith}
 use mathlib.Core.Bool.{Bool, true, false, not, cond, _&&_, _||_, Bool·not-not, and-self, and-true, and-false, and-not-self, or-self, or-true, or-false, or-not-self}
 use mathlib.Core.Logic.{_⊎_, inl, inr}
-use mathlib.Core.List.{List, [], _∷_}
+use mathlib.Core.List.{[], _∷_}
 use lib.Dec.{eqb}
 use borrow.Author.Tests.{eqb-true}
-use Rattle.arena.specs.Nodes.{F, T, node, Nodes, kindAt, argAt, args, put, Out, out}
-use Rattle.arena.specs.Walks.{litNode}
-use Rattle.arena.specs.Values.{Ty, tbool, Value, bool, asBool}
+use Rattle.arena.specs.Nodes.{F, T, node, Nodes, kindAt, argAt, args, out}
+use Rattle.arena.specs.Values.{tbool, Value, bool, asBool}
 use Rattle.arena.specs.Meaning.{Interp, Good, coreMeans, term, meanNode, meaning}
-use Rattle.arena.proofs.Bools.{t≢f, or-cases, or-false-l, or-false-r, branch}
+use Rattle.arena.proofs.Bools.{t≢f, or-cases, or-false-l, branch}
 use Rattle.arena.proofs.Chain.{WF}
-use Rattle.arena.proofs.View.{Is, is-not, is-and, is-or}
+use Rattle.arena.proofs.View.{is-not, is-and, is-or}
 use Rattle.arena.proofs.Types.{ty-bool}
 use Rattle.arena.proofs.Sound.{bool-at}
 use Rattle.arena.proofs.Known.{Lit, B, not-node, no-lit}

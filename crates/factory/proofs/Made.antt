@@ -2,12 +2,12 @@
 use mathlib.Core.Path.{_≡_, refl, sym, ap, _∙_, subst}
 use Prim.Native.Nat.{ℕ, _^_, _≤_, _<_}
 use native.Mathlib.Omega.{arith}
-use mathlib.Core.Bool.{Bool, true, false, not}
-use mathlib.Core.List.{List, [], _∷_}
+use mathlib.Core.Bool.{Bool, true, false}
+use mathlib.Core.List.{[], _∷_}
 use lib.ListN.{getD}
 use Rattle.arena.specs.Lists.{all}
-use Rattle.arena.specs.Nodes.{Node, node, Nodes, kindAt, typeAt, parAt, argAt, args, keys, put, Out, out}
-use Rattle.arena.specs.Walks.{litNode, isLit}
+use Rattle.arena.specs.Nodes.{Node, node, Nodes, kindAt, typeAt, parAt, argAt, args, put, Out, out}
+use Rattle.arena.specs.Walks.{litNode}
 use Rattle.arena.specs.WellFormed.{small, isType, isTerm}
 use Rattle.arena.specs.Values.{Ty, tbool, topt, Value, bool}
 use Rattle.arena.specs.Meaning.{tyOf, tyAt, Interp, Good, makerMeans, coreMeans, term, meanNode, meaning}

@@ -4,20 +4,19 @@ use Prim.Native.Nat.{ℕ}
 use native.Mathlib.Omega.{arith}
 use mathlib.Core.Bool.{Bool, true, false, not, cond, _&&_}
 use mathlib.Core.Logic.{_⊎_, inl, inr}
-use mathlib.Core.List.{List, [], _∷_}
+use mathlib.Core.List.{[], _∷_}
 use lib.Dec.{eqb}
 use borrow.Author.Tests.{eqb-true, eqb-false}
-use Rattle.arena.specs.Nodes.{F, T, node, Nodes, kindAt, typeAt, argAt, elemAt, args, Out, out}
+use Rattle.arena.specs.Nodes.{node, Nodes, kindAt, typeAt, argAt, elemAt, args}
 use Rattle.arena.specs.Values.{Ty, tbool, topt, Value, bool, bits, vnone, vsome, vset, vrec, code, compareT, compareV, eqV, asBool, getOr}
-use Rattle.arena.specs.Meaning.{tyOf, Interp, Good, noneGet, dataMeans, term, meanNode, meaning}
+use Rattle.arena.specs.Meaning.{Interp, noneGet, dataMeans, term, meanNode, meaning}
 use Rattle.arena.proofs.Bools.{and-l, and-r}
 use Rattle.arena.proofs.Chain.{WF}
 use Rattle.arena.proofs.View.{is-get}
 use Rattle.arena.proofs.Whole.{elem-type}
 use Rattle.arena.proofs.Canon.{lit-kind}
-use Rattle.arena.proofs.Known.{Lit, B, none-means, some-node, IteNode, ite-node, zeroI, lit-opt}
+use Rattle.arena.proofs.Known.{Lit, B, none-means, some-node, ite-node, zeroI, lit-opt}
 use Rattle.factory.specs.Makers.{noneOf}
-use Rattle.factory.specs.Core.{notT, eqT}
 use Rattle.factory.specs.SetSteps.{optionGet}
 use Rattle.factory.specs.Helpers.{isNoneLit, isSomeLit, eqNone, isNoneIte, isNone, isSome}
 use Rattle.factory.specs.Meanings.{means55, isNoneV, means60, means61}

@@ -2,20 +2,20 @@
 use mathlib.Core.Path.{_≡_, refl, sym, ap, _∙_, subst}
 use Prim.Native.Nat.{ℕ}
 use native.Mathlib.Omega.{arith}
-use mathlib.Core.Bool.{true, false}
-use mathlib.Core.Option.{Option, some}
+use mathlib.Core.Bool.{true}
+use mathlib.Core.Option.{some}
 use mathlib.Core.List.{List, [], _∷_}
 use lib.Dec.{eqb}
 use borrow.Author.Tests.{eqb-true, eqb-false}
-use Rattle.arena.specs.Lists.{odds, field, fieldD}
-use Rattle.arena.specs.Nodes.{node, Nodes, kindAt, typeAt, memAt, args, put, Out, out}
+use Rattle.arena.specs.Lists.{field}
+use Rattle.arena.specs.Nodes.{node, Nodes, kindAt, typeAt, memAt, args, put, out}
 use Rattle.arena.specs.Walks.{isLit}
 use Rattle.arena.specs.WellFormed.{small, isTerm}
-use Rattle.arena.specs.Values.{fieldV, asRec}
+use Rattle.arena.specs.Values.{asRec}
 use Rattle.arena.specs.Meaning.{tyOf, dataMeans, term, meanNode, meaning}
 use Rattle.arena.proofs.Runs.{field-fieldD, field-all}
 use Rattle.arena.proofs.Chain.{WF}
-use Rattle.arena.proofs.View.{Tm, is-fld}
+use Rattle.arena.proofs.View.{is-fld}
 use Rattle.arena.proofs.Fields.{field-types, rec-field}
 use Rattle.arena.proofs.Known.{Lit, rec-node, lit-rec}
 use Rattle.factory.specs.SetSteps.{recordGet}

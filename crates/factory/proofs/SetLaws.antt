@@ -1,19 +1,19 @@
 -- The laws of the set operations: 50 member, 51 subset, 52 inter, 53 is_empty, 54 intersects.
 use mathlib.Core.Path.{_≡_, refl, sym, ap, ap₂, _∙_, subst}
-use Prim.Native.Nat.{ℕ, _≤_, Ordering, Ordering·lt, Ordering·eq, Ordering·gt}
+use Prim.Native.Nat.{ℕ, Ordering, Ordering·lt, Ordering·eq, Ordering·gt}
 use native.Mathlib.Omega.{arith}
-use mathlib.Core.Bool.{Bool, true, false, not, cond, _&&_}
-use mathlib.Core.Logic.{_⊎_, inl, inr}
+use mathlib.Core.Bool.{true, false, _&&_}
+use mathlib.Core.Logic.{inr}
 use mathlib.Core.List.{List, [], _∷_, map}
 use lib.ListN.{getD}
 use lib.Dec.{eqb}
 use borrow.Author.Tests.{eqb-true}
 use Rattle.arena.specs.Lists.{all, mem?, rising, common}
-use Rattle.arena.specs.Nodes.{node, Nodes, kindAt, typeAt, memAt, elemAt, args, put, Out, out}
+use Rattle.arena.specs.Nodes.{node, Nodes, kindAt, typeAt, memAt, elemAt, args, put}
 use Rattle.arena.specs.Walks.{litNode, isLit}
 use Rattle.arena.specs.WellFormed.{isTerm}
 use Rattle.arena.specs.Values.{Ty, tbool, tset, Value, bool, vset, Values, vnil, vcons, code, compareT, compareV, eqV, insertV, setV, memV, subsetV, interV, asBool, asSet}
-use Rattle.arena.specs.Meaning.{tyOf, Interp, Good, makerMeans, dataMeans, term, meanNode, meaning}
+use Rattle.arena.specs.Meaning.{Interp, Good, makerMeans, dataMeans, term, meanNode, meaning}
 use Rattle.arena.proofs.Bools.{t≢f, and-l, and-r}
 use Rattle.arena.proofs.Runs.{all0}
 use Rattle.arena.proofs.Chain.{WF}
@@ -24,9 +24,7 @@ use Rattle.arena.proofs.SetOps.{inter-self, inter-nil, subset-self}
 use Rattle.arena.proofs.Sound.{set-at}
 use Rattle.arena.proofs.Rising.{common-all, common-length, common-rising}
 use Rattle.arena.proofs.Known.{Lit, set-node, lit-set}
-use Rattle.arena.proofs.LitSets.{Elem, Elems, elems, mem-lit, subset-lit, inter-lit}
-use Rattle.factory.specs.Makers.{boolAt}
-use Rattle.factory.specs.Core.{notT, eqT}
+use Rattle.arena.proofs.LitSets.{Elems, elems, mem-lit, subset-lit, inter-lit}
 use Rattle.factory.specs.SetSteps.{isSet, isNil, emptyAt, bothSets, setMember, setSubset, setInter, setIsEmpty, setIntersects}
 use Rattle.factory.specs.Meanings.{means50, means51, means52, emptyV, means53, means54}
 use Rattle.factory.proofs.Law.{Typed, typed-tm, same-tm, set-kind, set-elem, typed-ext, mean-old, lit-old, Law, stay, added, applied, reads, onward, law-if}

@@ -7,7 +7,7 @@ use Prim.Native.Nat.{ℕ, _-_, _≤_}
 use native.Mathlib.Omega.{arith}
 use lib.ListN.{length, take, replicate, length-set}
 use lib.ListN.{length, take, replicate}
-use Rattle.arena.proofs.LentCells.{clear-more, clear-all}
+use Rattle.arena.proofs.FreshCells.{clear-more, clear-all}
 use Rattle.arena.proofs.cells.clear_back.Statement.{statement}
 use Rattle.arena.proofs.cells.clear_back.Tie as tie
 

@@ -5,8 +5,8 @@ use mathlib.Core.Path.{sym, subst}
 use Prim.Native.Nat.{ℕ}
 use native.Mathlib.Omega.{arith}
 use lib.ListN.{set, length-set}
-use Rattle.arena.specs.Lent.{Freshened}
-use Rattle.arena.proofs.LentCells.{fresh-low, fresh-high, fresh-made}
+use Rattle.arena.specs.Fresh.{Freshened}
+use Rattle.arena.proofs.FreshCells.{fresh-low, fresh-high, fresh-made}
 use Rattle.arena.proofs.cells.fresh.Statement.{statement}
 use Rattle.arena.proofs.cells.fresh.Tie as tie
 

@@ -13,7 +13,7 @@ use Rattle.arena.specs.Lists.{every, within}
 use Rattle.arena.specs.Nodes.{mark, fresh, Out}
 use Rattle.arena.specs.Cells.{cells, padded, used}
 use Rattle.arena.specs.WellFormed.{fewest, most, IsArena}
-use Rattle.arena.specs.Lent.{cleared, freshMark, freshCells, Freshened}
+use Rattle.arena.specs.Fresh.{cleared, freshMark, freshCells, Freshened}
 use Rattle.arena.specs.Did.{Reply, Done}
 use Rattle.arena.proofs.Bools.{all-every}
 use Rattle.arena.proofs.Ext.{mark-fresh}
