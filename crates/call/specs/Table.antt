@@ -7,7 +7,7 @@ use lib.ListN.{getD, drop}
 use lib.Dec.{eqb, leb, ltb}
 use Rattle.arena.specs.Lists.{within, all, any, evens, odds, field, rising}
 use Rattle.arena.specs.Nodes.{node, Nodes, typeAt, parAt, memAt, elemAt, widthAt, put, Out, out}
-use Rattle.arena.specs.Walks.{hasSet}
+use Rattle.arena.specs.Walks.{setFree}
 use Rattle.arena.specs.WellFormed.{small, kindIs}
 use Rattle.factory.specs.Makers.{boolAt, bitvecType, optionType, setType, recordType, bitvecLit, variable, noneOf, someOf, setOf, recordOf}
 use Rattle.factory.specs.Core.{notT, andT, orT, implies, eqT, iteT, uninterpreted}
@@ -145,14 +145,14 @@ table =
     plain 1 noOperand free (λ a xs. put a (node 1 0 0 []))
     ∷ withPar 2 noOperand free (λ a p xs. not (within 1 64 p)) never never (λ a p xs. bitvecType a p)
     ∷ plain 3 oneType free (one optionType)
-    ∷ plain 4 oneType (λ a xs. hasSet a (#0 xs)) (one setType)
+    ∷ plain 4 oneType (λ a xs. not (setFree a (#0 xs))) (one setType)
     ∷ listed 5 ty free (λ a p xs. not (all small (evens xs) && rising (evens xs))) recordType
     -- makers
     ∷ withPar 10 noOperand free never (λ a p xs. ltb 1 p) never (λ a p xs. out a (boolAt (eqb p 1)))
     ∷ withPar 11 oneType (λ a xs. not (kindIs a (#0 xs) 2)) never (λ a p xs. leb (2 ^ parAt a (#0 xs)) p) never (λ a p xs. bitvecLit a (#0 xs) p)
     ∷ plain 12 oneType free (one noneOf)
     ∷ plain 13 oneTerm free (one someOf)
-    ∷ plain 14 (run (ty ∷ [])) (λ a xs. hasSet a (#0 xs) || any (notOf a (#0 xs)) (rest xs)) (λ a xs. setOf a (#0 xs) (rest xs))
+    ∷ plain 14 (run (ty ∷ [])) (λ a xs. not (setFree a (#0 xs)) || any (notOf a (#0 xs)) (rest xs)) (λ a xs. setOf a (#0 xs) (rest xs))
     ∷ listed 15 tm free largeAttributes recordOf
     ∷ withPar 16 oneType free never large never (λ a p xs. variable a p (#0 xs))
     -- core

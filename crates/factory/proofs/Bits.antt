@@ -12,7 +12,7 @@ use Rattle.bitvec.specs.Overflow.{bvnego}
 use Rattle.bitvec.specs.Numbered.{bvappOf, bvcmpOf, bvsoOf}
 use Rattle.bitvec.proofs.Below.{bvneg-lt, bvapp-lt}
 use Rattle.bitvec.proofs.Negation.{neg-neg}
-use Rattle.arena.specs.Nodes.{Node, node, Nodes, kindAt, typeAt, parAt, argAt, widthAt, args, put, Out, out}
+use Rattle.arena.specs.Nodes.{Node, node, Nodes, kindAt, typeAt, parAt, argAt, widthAt, positions, put, Out, out}
 use Rattle.arena.specs.Values.{Ty, tbool, tbv, Value, bool, bits, asBits}
 use Rattle.arena.specs.Meaning.{tyOf, tyAt, width, Interp, Good, bvMeans, term, meanNode, meaning}
 use Rattle.arena.proofs.Bools.{t≢f, and-l, and-r}
@@ -59,7 +59,7 @@ module _ {a : Nodes} (w : WF a) {n : ℕ} (t : ℕ) (m : Typed a (tbv n) t) wher
   -- ---- 30 neg, 45 nego
 
   pub bvneg-law : Law a (Lit a t) (tbv n) (λ I. means30 n (meaning I a t)) (bvnegT a t)
-  unfolding bvnegT meanNode term bvMeans args width asBits
+  unfolding bvnegT meanNode term bvMeans positions width asBits
   bvneg-law =
       law-if (isBv a t) _ _
       (λ e. reads (literal (bvneg (widthAt a t) (parAt a t)) (bvneg-lt (widthAt a t) (parAt a t))) (λ l. l) (λ I G. rw (number e I, bv-width w m)))
@@ -79,7 +79,7 @@ module _ {a : Nodes} (w : WF a) {n : ℕ} (t : ℕ) (m : Typed a (tbv n) t) wher
           sym (s .0) ∙ ap bits (sym (neg-neg n (asBits (meaning I a x)) lt) ∙ ap (bvneg n) (sym (ap asBits h ∙ ap (λ (z : ℕ). bvneg z (asBits (meaning I a x))) q)))
 
   pub bvnego-law : Law a (Lit a t) tbool (λ I. means45 n (meaning I a t)) (bvnegoT a t)
-  unfolding bvnegoT meanNode term bvMeans args
+  unfolding bvnegoT meanNode term bvMeans positions
   bvnego-law =
       law-if (isBv a t) _ _
       (λ e. says w (bvnego (widthAt a t) (parAt a t)) (λ I G. rw (number e I, bv-width w m)))
@@ -134,7 +134,7 @@ module _ {a : Nodes} (w : WF a) {n : ℕ} (op t u : ℕ) (m : Typed a (tbv n) t)
 -- ---- 49 zero_extend, by x; the wider type is found or added first
 
 pub zeroExtend-law : {a : Nodes} → WF a → {n : ℕ} (x t : ℕ) → Typed a (tbv n) t → n + x ≤ 64 → Law a (Lit a t) (tbv (n + x)) (λ I. means49 n x (meaning I a t)) (zeroExtendT a x t)
-unfolding zeroExtendT meanNode term bvMeans args
+unfolding zeroExtendT meanNode term bvMeans positions
 zeroExtend-law {a} w {n} x t m h =
     let v = bv-width w m in
     let r = width-range (w .chain) (typeAt a t) (bv-kind w m) .0 in

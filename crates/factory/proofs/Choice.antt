@@ -7,7 +7,7 @@ use mathlib.Core.Logic.{_⊎_, inl, inr}
 use mathlib.Core.List.{[], _∷_}
 use lib.Dec.{eqb}
 use borrow.Author.Tests.{eqb-true}
-use Rattle.arena.specs.Nodes.{F, T, node, Nodes, kindAt, typeAt, argAt, args}
+use Rattle.arena.specs.Nodes.{F, T, node, Nodes, kindAt, typeAt, argAt, positions}
 use Rattle.arena.specs.Walks.{isLit}
 use Rattle.arena.specs.Values.{Ty, tbool, Value, bool, vsome, asBool}
 use Rattle.arena.specs.Meaning.{Interp, coreMeans, term, meanNode, meaning}
@@ -77,7 +77,7 @@ module _ {a : Nodes} (w : WF a) {y : Ty} (g t u : ℕ) (k : Typed a tbool g) (m 
       go (inr q) = l .1 q
 
   simplify-law : Law a Chosen y (λ I. means25 (meaning I a g) (meaning I a t) (meaning I a u)) (iteSimplify a g t u)
-  unfolding iteSimplify asBool meanNode term coreMeans args
+  unfolding iteSimplify asBool meanNode term coreMeans positions
   simplify-law =
       law-if (eqb g T || eqb t u) _ _
       (λ e. let c = or-cases (eqb g T) (eqb t u) e in stay t w m (λ I G. first I c) (chosen-first c))

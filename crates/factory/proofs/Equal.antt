@@ -7,15 +7,15 @@ use mathlib.Core.Logic.{_⊎_, inl, inr}
 use mathlib.Core.List.{[], _∷_}
 use lib.Dec.{eqb}
 use borrow.Author.Tests.{eqb-true, eqb-false}
-use Rattle.arena.specs.Nodes.{F, T, node, Nodes, kindAt, typeAt, argAt, elemAt, args}
+use Rattle.arena.specs.Nodes.{F, T, node, Nodes, kindAt, typeAt, argAt, elemAt, positions}
 use Rattle.arena.specs.Walks.{isLit}
-use Rattle.arena.specs.Values.{Ty, tbool, topt, Value, bool, vnone, vsome, code, compareT, compareV, eqV}
+use Rattle.arena.specs.Values.{Ty, tbool, topt, bool, eqV}
 use Rattle.arena.specs.Meaning.{tyOf, tyAt, Interp, Good, coreMeans, term, meanNode, meaning}
-use Rattle.arena.proofs.Bools.{t≢f, and-l, and-r, or-cases, both-ways}
+use Rattle.arena.proofs.Bools.{t≢f, and-l, and-r, or-cases}
 use Rattle.arena.proofs.Chain.{WF}
 use Rattle.arena.proofs.View.{is-eq}
 use Rattle.arena.proofs.Types.{ty-opt, ty-bool}
-use Rattle.arena.proofs.Sets.{eqV-eq, eqV-refl, eqV-ne}
+use Rattle.arena.proofs.Sets.{eqV-refl, eqV-ne, eqV-sym, eqV-some, eqV-some-none, eqV-true, eqV-false}
 use Rattle.arena.proofs.Sound.{bool-at}
 use Rattle.arena.proofs.Canon.{canon}
 use Rattle.arena.proofs.Known.{Lit, B, none-means, some-node}
@@ -26,28 +26,10 @@ use Rattle.factory.proofs.Law.{Typed, tm-typed, bool-tm, tm-bool, same-
 use Rattle.factory.proofs.Made.{bool-at-tm, bool-at-means, says}
 use Rattle.factory.proofs.Logic.{holds, not-law}
 
--- ---- equality of values
-
-eqV-bool : (x y : Bool) → eqV (bool x) (bool y) ≡ cond x y (not y)
-unfolding eqV compareV compareT code
-eqV-bool true true = refl
-eqV-bool true false = refl
-eqV-bool false true = refl
-eqV-bool false false = refl
-
-pub eqV-sym : (v w : Value) → eqV v w ≡ eqV w v
-eqV-sym v w = both-ways (eqV v w) (eqV w v) (λ e. turn v w e) (λ e. turn w v e)
-  where
-    turn : (v w : Value) → eqV v w ≡ true → eqV w v ≡ true
-    turn v w e = ap (λ (z : Value). eqV z v) (sym (eqV-eq v w e)) ∙ eqV-refl v
-
-eqV-some : (v w : Value) → eqV (vsome v) (vsome w) ≡ eqV v w
-unfolding eqV compareV compareT code
-eqV-some v w = refl
-
-eqV-some-none : (v : Value) → eqV (vsome v) vnone ≡ false
-unfolding eqV compareV compareT code
-eqV-some-none v = refl
+-- a bool against a known one
+eqV-bool : (c x : Bool) → eqV (bool x) (bool c) ≡ cond c x (not x)
+eqV-bool true x = eqV-true x
+eqV-bool false x = eqV-false x
 
 -- ---- the type of a Bool literal is Bool, and so is that of the term that it is compared with
 
@@ -67,15 +49,15 @@ some-inner w t k m = tm-typed (opt-elem w m) (some-node w t k .under)
 
 -- a Bool literal against a Bool term
 module _ (I : Interp) (G : Good I) {a : Nodes} (w : WF a) (x : ℕ) (m : Typed a tbool x) (c : Bool) (t : ℕ) (e : t ≡ boolAt c) where
-  const-eq : cond c (B I a x) (not (B I a x)) ≡ eqV (meaning I a t) (meaning I a x)
-  const-eq = sym (eqV-bool c (B I a x)) ∙ ap₂ eqV (sym (ap (meaning I a) e ∙ bool-at-means w I c)) (bool-at I G w x (bool-tm w m))
-
   const-eq' : cond c (B I a x) (not (B I a x)) ≡ eqV (meaning I a x) (meaning I a t)
-  const-eq' = const-eq ∙ eqV-sym (meaning I a t) (meaning I a x)
+  const-eq' = sym (eqV-bool c (B I a x)) ∙ ap₂ eqV (bool-at I G w x (bool-tm w m)) (sym (ap (meaning I a) e ∙ bool-at-means w I c))
+
+  const-eq : cond c (B I a x) (not (B I a x)) ≡ eqV (meaning I a t) (meaning I a x)
+  const-eq = const-eq' ∙ eqV-sym (meaning I a x) (meaning I a t)
 
 module _ {a : Nodes} (w : WF a) {y : Ty} (t u : ℕ) (m : Typed a y t) (n : Typed a y u) where
   simplify-law : Law a (Lit a t × Lit a u) tbool (λ I. means24 (meaning I a t) (meaning I a u)) (eqSimplify a t u)
-  unfolding eqSimplify meanNode term coreMeans args
+  unfolding eqSimplify meanNode term coreMeans positions
   simplify-law =
       law-if (eqb t u) _ _
       (λ e. says w true (λ I G. ap bool (sym (ap (λ (x : ℕ). eqV (meaning I a t) (meaning I a x)) (sym (eqb-true t u e)) ∙ eqV-refl (meaning I a t)))))

@@ -3,13 +3,13 @@ use mathlib.Core.Path.{_≡_, refl, sym, ap, _∙_, subst}
 use Prim.Native.Nat.{ℕ, _≤_}
 use mathlib.Core.Bool.{Bool, true, false, cond}
 use Rattle.arena.specs.Nodes.{Node, Nodes, kindAt, typeAt, elemAt, widthAt, put, Out, out}
-use Rattle.arena.specs.Walks.{litNode, isLit}
+use Rattle.arena.specs.Walks.{ruled, litRule, isLit}
 use Rattle.arena.specs.WellFormed.{isType, isTerm}
 use Rattle.arena.specs.Values.{Ty, tbool, tbv, topt, tset, Value}
 use Rattle.arena.specs.Meaning.{tyOf, tyAt, Interp, Good, meanNode, meaning}
 pub use Rattle.factory.specs.Fit.{Typed}
 use Rattle.arena.proofs.Bools.{by-cases}
-use Rattle.arena.proofs.Ext.{Ext, ext-same, ext-trans, ty-ext, meaning-ext, lit-ext}
+use Rattle.arena.proofs.Ext.{Ext, ext-same, ext-trans, ty-ext, meaning-ext, walked-ext}
 use Rattle.arena.proofs.Chain.{WF, type-below, term-below, type-ext, term-ext, term-type, placed-term, tyAt-ext}
 use Rattle.arena.proofs.View.{Tm, Is}
 use Rattle.arena.proofs.Types.{ty-bv, ty-opt, ty-set, ty-bool}
@@ -96,7 +96,7 @@ module _ {a b : Nodes} (e : Ext a b) {y : Ty} {x : ℕ} (m : Typed a y x) where
   mean-old I = meaning-ext I e x (term-below a x (m .isterm))
 
   pub lit-old : Lit a x → Lit b x
-  lit-old l = lit-ext e x (term-below a x (m .isterm)) ∙ l
+  lit-old l = walked-ext litRule e x (term-below a x (m .isterm)) ∙ l
 
 -- ---- the law of a step
 
@@ -120,7 +120,7 @@ pub stay : {a : Nodes} {L : Type 0} {y : Ty} {v : Interp → Value} (p : ℕ) �
 stay p w m h l = record { ext = ext-same; wf = w; typed = m; means = h; lit = l }
 
 -- a node found or added
-pub added : {a : Nodes} {L : Type 0} {y : Ty} (n : Node) → WF a → 16 ≤ n .kind → Is a n → tyOf a (n .type) ≡ y → (L → litNode a (isLit a) n ≡ true)
+pub added : {a : Nodes} {L : Type 0} {y : Ty} (n : Node) → WF a → 16 ≤ n .kind → Is a n → tyOf a (n .type) ≡ y → (L → ruled litRule a (isLit a) n ≡ true)
     → Law a L y (λ I. meanNode I a (meaning I a) n) (put a n)
 added {a} n w h i e l =
     let p = node-added n w h i l in

@@ -8,8 +8,8 @@ use lib.ListN.{length}
 use lib.Dec.{eqb, ltb}
 use borrow.Author.Tests.{eqb-true, eq-eqb}
 use Rattle.arena.specs.Lists.{all, sameList, evens, odds, sorted, putField, fieldsOf}
-use Rattle.arena.specs.Nodes.{Node, node, Nodes, kindAt, typeAt, memAt, argAt, args, keys, fieldTypes}
-use Rattle.arena.specs.Walks.{litNode, isLit, hasSet}
+use Rattle.arena.specs.Nodes.{Node, node, Nodes, kindAt, typeAt, memAt, argAt, positions, keys, fieldTypes}
+use Rattle.arena.specs.Walks.{ruled, litRule, isLit, setFree}
 use Rattle.arena.specs.WellFormed.{small, fieldRun, isType, isTerm}
 use Rattle.arena.specs.Values.{Ty, tset, trec, Value, vset, vrec, VFields, fcons, recV}
 use Rattle.arena.specs.Meaning.{recTy, tyOf, tyAt, makerMeans, term, meanNode, meaning}
@@ -33,9 +33,9 @@ use Rattle.factory.proofs.Made.{holder}
 
 -- ---- 14 set
 
-pub set-law : {a : Nodes} → WF a → (e : ℕ) (ts : List ℕ) → isType a e ≡ true → hasSet a e ≡ false → length ts ≤ 256 → all (isTerm a) ts ≡ true → all (λ x. eqb (typeAt a x) e) ts ≡ true
+pub set-law : {a : Nodes} → WF a → (e : ℕ) (ts : List ℕ) → isType a e ≡ true → setFree a e ≡ true → length ts ≤ 256 → all (isTerm a) ts ≡ true → all (λ x. eqb (typeAt a x) e) ts ≡ true
     → Law a (all (isLit a) ts ≡ true) (tset (tyOf a e)) (λ I. means14 (map (meaning I a) ts)) (setOf a e ts)
-unfolding setOf meanNode term makerMeans args litNode
+unfolding setOf meanNode term makerMeans positions ruled litRule
 set-law {a} w e ts h n l m t =
     let p = holder w 4 e (omega arith) h (is-set e h n) in
     let b = setType a e .arena in
@@ -91,7 +91,7 @@ types-map {a} w e (x ∷ y ∷ r) h =
 
 pub record-law : {a : Nodes} → WF a → (ats : List ℕ) → length ats ≤ 128 → all small (evens ats) ≡ true → all (isTerm a) (odds ats) ≡ true
     → Law a (all (isLit a) (odds ats) ≡ true) (recordTy (tyAt a) ats) (λ I. means15 (evens ats) (map (meaning I a) (odds ats))) (recordOf a ats)
-unfolding recordOf meanNode term makerMeans args keys litNode fieldRun all odds recV evens
+unfolding recordOf meanNode term makerMeans positions keys ruled litRule fieldRun all odds recV evens
 record-law {a} w ats l s m =
     let fs = fieldsOf [] ats in
     let run = fieldsOf-run ats l s in

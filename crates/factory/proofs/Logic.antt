@@ -7,7 +7,7 @@ use mathlib.Core.Logic.{_⊎_, inl, inr}
 use mathlib.Core.List.{[], _∷_}
 use lib.Dec.{eqb}
 use borrow.Author.Tests.{eqb-true}
-use Rattle.arena.specs.Nodes.{F, T, node, Nodes, kindAt, argAt, args, out}
+use Rattle.arena.specs.Nodes.{F, T, node, Nodes, kindAt, argAt, positions, out}
 use Rattle.arena.specs.Values.{tbool, Value, bool, asBool}
 use Rattle.arena.specs.Meaning.{Interp, Good, coreMeans, term, meanNode, meaning}
 use Rattle.arena.proofs.Bools.{t≢f, or-cases, or-false-l, branch}
@@ -28,7 +28,7 @@ pub holds : {a : Nodes} {L : Type 0} {v : Interp → Value} (w : WF a) (t : ℕ)
 holds w t m h l = stay t w m (λ I G. sym (bool-at I G w t (bool-tm w m)) ∙ h I G) l
 
 pub not-law : {a : Nodes} → WF a → (t : ℕ) → Typed a tbool t → Law a (Lit a t) tbool (λ I. means20 (meaning I a t)) (notT a t)
-unfolding notT asBool meanNode term coreMeans args
+unfolding notT asBool meanNode term coreMeans positions
 not-law {a} w t m =
     law-if (eqb t T) _ _
     (λ e. says w false (λ I G. rw (eqb-true t T e, bool-at-means w I true)))
@@ -95,7 +95,7 @@ module _ {b : Bool} {f : Bool → Bool → Bool} (C : Connective b f) {a : Nodes
       (λ e3. k (λ l. neither w b t m e2 (or-false-l _ _ e3) (l .0)))))
 
 pub and-law : {a : Nodes} → WF a → (t u : ℕ) → Typed a tbool t → Typed a tbool u → Law a (Lit a t × Lit a u) tbool (λ I. means21 (meaning I a t) (meaning I a u)) (andT a t u)
-unfolding andT junction meanNode term coreMeans args
+unfolding andT junction meanNode term coreMeans positions
 and-law {a} w t u m n =
     connective-law and w t u m n 21 (λ l. applied (node 121 0 0 (t ∷ u ∷ [])) w (omega arith) (is-and t u (bool-tm w m) (bool-tm w n)) (ty-bool (w .base)) l)
   where
@@ -103,7 +103,7 @@ and-law {a} w t u m n =
     and = record { idem = and-self; unit-l = λ x. refl; unit-r = and-true; zero-l = λ x. refl; zero-r = and-false; excluded = and-not-self }
 
 pub or-law : {a : Nodes} → WF a → (t u : ℕ) → Typed a tbool t → Typed a tbool u → Law a (Lit a t × Lit a u) tbool (λ I. means22 (meaning I a t) (meaning I a u)) (orT a t u)
-unfolding orT junction meanNode term coreMeans args
+unfolding orT junction meanNode term coreMeans positions
 or-law {a} w t u m n =
     connective-law or w t u m n 22 (λ l. applied (node 122 0 0 (t ∷ u ∷ [])) w (omega arith) (is-or t u (bool-tm w m) (bool-tm w n)) (ty-bool (w .base)) l)
   where

@@ -6,8 +6,8 @@ use mathlib.Core.Bool.{Bool, true, false}
 use mathlib.Core.List.{[], _∷_}
 use lib.ListN.{getD}
 use Rattle.arena.specs.Lists.{all}
-use Rattle.arena.specs.Nodes.{Node, node, Nodes, kindAt, typeAt, parAt, argAt, args, put, Out, out}
-use Rattle.arena.specs.Walks.{litNode}
+use Rattle.arena.specs.Nodes.{Node, node, Nodes, kindAt, typeAt, parAt, argAt, positions, put, Out, out}
+use Rattle.arena.specs.Walks.{ruled, litRule}
 use Rattle.arena.specs.WellFormed.{small, isType, isTerm}
 use Rattle.arena.specs.Values.{Ty, tbool, topt, Value, bool}
 use Rattle.arena.specs.Meaning.{tyOf, tyAt, Interp, Good, makerMeans, coreMeans, term, meanNode, meaning}
@@ -48,7 +48,7 @@ module _ {a : Nodes} (w : WF a) where
   -- ---- 11 bitvec literal, 16 variable, 26 uninterpreted application: one node of a type that stands
 
   pub bitvec-law : {L : Type 0} {y : Ty} (t n : ℕ) → tyOf a t ≡ y → kindAt a t ≡ 2 → n < 2 ^ parAt a t → Law a L y (λ I. means11 n) (bitvecLit a t n)
-  unfolding meanNode term makerMeans litNode
+  unfolding meanNode term makerMeans ruled litRule
   bitvec-law t n e h l = added (node 17 t n []) w (omega arith) (is-lit t n h l) e (λ x. refl)
 
   pub variable-law : (id t : ℕ) → small id ≡ true → isType a t ≡ true → Law a ⊥ (tyOf a t) (λ I. means16 I id (tyOf a t)) (variable a id t)
@@ -57,7 +57,7 @@ module _ {a : Nodes} (w : WF a) where
 
   pub uninterpreted-law : (id t x : ℕ) → small id ≡ true → isType a t ≡ true → isTerm a x ≡ true
       → Law a ⊥ (tyOf a t) (λ I. means26 I id (tyAt a x) (tyOf a t) (meaning I a x)) (uninterpreted a id t x)
-  unfolding uninterpreted meanNode term coreMeans args
+  unfolding uninterpreted meanNode term coreMeans positions
   uninterpreted-law id t x s h m = applied (node 126 t id (x ∷ [])) w (omega arith) (is-uf t id x h s m) refl (λ x. x)
 
   -- ---- 12 None, 13 Some: their Option type is found or added first
@@ -86,14 +86,14 @@ module _ {a : Nodes} (w : WF a) where
   option-type e p = ty-opt (p .wf .chain) (optionType a e .at) (p .kind) ∙ ap topt (p .inner)
 
   pub none-law : {L : Type 0} {y : Ty} (e : ℕ) → isType a e ≡ true → tyOf a e ≡ y → Law a L (topt y) (λ I. means12) (noneOf a e)
-  unfolding noneOf meanNode term makerMeans litNode
+  unfolding noneOf meanNode term makerMeans ruled litRule
   none-law e h q =
       let p = holder 3 e (omega arith) h (is-opt e h) in
       let s = optionType a e .at in
       onward (p .ext) (added (node 18 s 0 []) (p .wf) (omega arith) (is-none s (p .kind)) (option-type e p ∙ ap topt q) (λ x. refl))
 
   pub some-law : {y : Ty} (t : ℕ) → Typed a y t → Law a (Lit a t) (topt y) (λ I. means13 (meaning I a t)) (someOf a t)
-  unfolding someOf meanNode term makerMeans args litNode all
+  unfolding someOf meanNode term makerMeans positions ruled litRule all
   some-law t m =
       let p = holder 3 (typeAt a t) (omega arith) (typed-type w m) (is-opt (typeAt a t) (typed-type w m)) in
       let b = optionType a (typeAt a t) .arena in

@@ -7,7 +7,7 @@ use mathlib.Core.Logic.{_⊎_, inl, inr}
 use mathlib.Core.List.{[], _∷_}
 use lib.Dec.{eqb}
 use borrow.Author.Tests.{eqb-true, eqb-false}
-use Rattle.arena.specs.Nodes.{node, Nodes, kindAt, typeAt, argAt, elemAt, args}
+use Rattle.arena.specs.Nodes.{node, Nodes, kindAt, typeAt, argAt, elemAt, positions}
 use Rattle.arena.specs.Values.{Ty, tbool, topt, Value, bool, bits, vnone, vsome, vset, vrec, code, compareT, compareV, eqV, asBool, getOr}
 use Rattle.arena.specs.Meaning.{Interp, noneGet, dataMeans, term, meanNode, meaning}
 use Rattle.arena.proofs.Bools.{and-l, and-r}
@@ -29,7 +29,7 @@ use Rattle.factory.proofs.Equal.{eq-law, some-inner}
 
 pub get-law : {a : Nodes} → WF a → {y : Ty} (t : ℕ) → Typed a (topt y) t
     → Law a (Lit a t × (kindAt a t ≡ 18 → ⊥)) y (λ I. means55 I y (meaning I a t)) (optionGet a t)
-unfolding optionGet meanNode term dataMeans args getOr
+unfolding optionGet meanNode term dataMeans positions getOr
 get-law {a} w {y} t m =
     law-if (eqb (kindAt a t) 19) _ _
     (λ e. let k = eqb-true (kindAt a t) 19 e in

@@ -8,7 +8,7 @@ use mathlib.Core.List.{List, [], _∷_}
 use lib.Dec.{eqb}
 use borrow.Author.Tests.{eqb-true, eqb-false}
 use Rattle.arena.specs.Lists.{field}
-use Rattle.arena.specs.Nodes.{node, Nodes, kindAt, typeAt, memAt, args, put, out}
+use Rattle.arena.specs.Nodes.{node, Nodes, kindAt, typeAt, memAt, positions, put, out}
 use Rattle.arena.specs.Walks.{isLit}
 use Rattle.arena.specs.WellFormed.{small, isTerm}
 use Rattle.arena.specs.Values.{asRec}
@@ -25,7 +25,7 @@ use Rattle.factory.proofs.Law.{Law, stay, applied, law-if}
 -- u is the type of the attribute k
 pub recordGet-law : {a : Nodes} → WF a → (k t u : ℕ) → small k ≡ true → isTerm a t ≡ true → kindAt a (typeAt a t) ≡ 5 → field (memAt a (typeAt a t)) k ≡ some u
     → Law a (Lit a t) (tyOf a u) (λ I. means56 k (meaning I a t)) (recordGet a k t)
-unfolding recordGet meanNode term dataMeans args asRec
+unfolding recordGet meanNode term dataMeans positions asRec
 recordGet-law {a} w k t u s m h f =
     law-if (eqb (kindAt a t) 21) _ _
     (λ e.

@@ -9,8 +9,8 @@ use lib.ListN.{getD}
 use lib.Dec.{eqb}
 use borrow.Author.Tests.{eqb-true}
 use Rattle.arena.specs.Lists.{all, mem?, rising, common}
-use Rattle.arena.specs.Nodes.{node, Nodes, kindAt, typeAt, memAt, elemAt, args, put}
-use Rattle.arena.specs.Walks.{litNode, isLit}
+use Rattle.arena.specs.Nodes.{node, Nodes, kindAt, typeAt, memAt, elemAt, positions, put}
+use Rattle.arena.specs.Walks.{ruled, litRule, isLit}
 use Rattle.arena.specs.WellFormed.{isTerm}
 use Rattle.arena.specs.Values.{Ty, tbool, tset, Value, bool, vset, Values, vnil, vcons, code, compareT, compareV, eqV, insertV, setV, memV, subsetV, interV, asBool, asSet}
 use Rattle.arena.specs.Meaning.{Interp, Good, makerMeans, dataMeans, term, meanNode, meaning}
@@ -90,7 +90,7 @@ module _ {a : Nodes} (w : WF a) {y : Ty} (s : ℕ) (m : Typed a (tset y) s) wher
   -- ---- 50 member
 
   pub member-law : (t : ℕ) → Typed a y t → Law a (Lit a t × Lit a s) tbool (λ I. means50 (meaning I a t) (meaning I a s)) (setMember a t s)
-  unfolding setMember memV meanNode term dataMeans args
+  unfolding setMember memV meanNode term dataMeans positions
   member-law t k =
       let k' : Tm a (elemAt a s) t = typed-tm w (elem-type w (typeAt a s) (inr (set-kind w m))) (record { isterm = k .isterm; typed = k .typed ∙ sym (set-elem w m) }) in
       law-if (emptyAt a s) _ _
@@ -105,7 +105,7 @@ module _ {a : Nodes} (w : WF a) {y : Ty} (s : ℕ) (m : Typed a (tset y) s) wher
   -- ---- 53 is_empty
 
   pub isEmpty-law : Law a (Lit a s) tbool (λ I. means53 (meaning I a s)) (setIsEmpty a s)
-  unfolding setIsEmpty meanNode term makerMeans args setV litNode all
+  unfolding setIsEmpty meanNode term makerMeans positions setV ruled litRule all
   isEmpty-law =
       law-if (isSet a s) _ _
       (λ e. says w (isNil (memAt a s)) (λ I G. ap bool (listed-empty (meaning I a) (memAt a s) ∙ ap emptyV (sym (members I e)))))
@@ -143,7 +143,7 @@ module _ {a : Nodes} (w : WF a) {y : Ty} (s t : ℕ) (m : Typed a (tset y) s) (n
   -- ---- 51 subset
 
   pub subset-law : Law a (Lit a s × Lit a t) tbool (λ I. means51 (meaning I a s) (meaning I a t)) (setSubset a s t)
-  unfolding setSubset subsetV meanNode term dataMeans args
+  unfolding setSubset subsetV meanNode term dataMeans positions
   subset-law =
       law-if (eqb s t) _ _
       (λ e. says w true (λ I G. ap bool (sym (ap (λ (z : ℕ). subsetV (asSet (meaning I a s)) (asSet (meaning I a z))) (sym (eqb-true s t e)) ∙ subset-self (asSet (meaning I a s))))))
@@ -158,7 +158,7 @@ module _ {a : Nodes} (w : WF a) {y : Ty} (s t : ℕ) (m : Typed a (tset y) s) (n
   -- ---- 52 inter
 
   pub inter-law : Law a (Lit a s × Lit a t) (tset y) (λ I. means52 (meaning I a s) (meaning I a t)) (setInter a s t)
-  unfolding setInter interV meanNode term makerMeans dataMeans args litNode
+  unfolding setInter interV meanNode term makerMeans dataMeans positions ruled litRule
   inter-law =
       law-if (eqb s t) _ _
       (λ e. stay s w m (λ I G. sym (form w s m I G) ∙ ap vset (sym (inter-self (asSet (meaning I a s)) (set-at I G w (typeAt a s) s (set-kind w m) (own w s m) .rise)))

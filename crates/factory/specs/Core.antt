@@ -19,12 +19,12 @@ unfoldable pub opposites : Nodes → ℕ → ℕ → Bool
 opposites a t u =
     cond (eqb (kindAt a u) 120) (eqb t (argAt a u 0)) (cond (eqb (kindAt a t) 120) (eqb (argAt a t 0) u) false)
 
--- what `and` and `or` share: `unit` adds nothing, `zero` decides
+-- what `and` and `or` share: `unit` adds nothing, the other literal decides
 unfoldable pub junction : ℕ → ℕ → ℕ → Nodes → ℕ → ℕ → Out
-junction op unit zero a t u =
+junction op unit other a t u =
     cond (eqb t u || eqb u unit) (out a t)
     (cond (eqb t unit) (out a u)
-    (cond (eqb t zero || (eqb u zero || opposites a t u)) (out a zero) (app a op 0 (t ∷ u ∷ []))))
+    (cond (eqb t other || (eqb u other || opposites a t u)) (out a other) (app a op 0 (t ∷ u ∷ []))))
 
 unfoldable pub andT : Nodes → ℕ → ℕ → Out
 andT a t u = junction 21 T F a t u

@@ -121,14 +121,31 @@ pub fn opposites(cells: &[u64], cursor: Cursor, t: TermPos, u: TermPos) -> bool
 fn first_alone(t: TermPos, u: TermPos, unit: TermPos) -> bool
     ensures { λ r. ⌜ r ≡ (eqb (t .0) (u .0) || eqb (u .0) (unit .0)) ⌝ }
 {
-    t.0 == u.0 || u.0 == unit.0
+    if t.0 == u.0 {
+        return true;
+    }
+    u.0 == unit.0
 }
 
-// What `and` and `or` share: `unit` adds nothing, `zero` decides.
-fn joined(cells: &mut [u64], cursor: Cursor, op: u64, unit: TermPos, zero: TermPos, t: TermPos, u: TermPos) -> TermStep
+// Whether it gives the other literal: one operand is that, or they are opposites.
+fn decided(cells: &[u64], cursor: Cursor, t: TermPos, u: TermPos, other: TermPos) -> bool
+    requires { ⌜ Ready (λ a. Typed a tbool (t .0) × Typed a tbool (u .0)) (now cells) (cursor .mark) ⌝ }
+    ensures { λ r. ⌜ r ≡ (eqb (t .0) (other .0) || (eqb (u .0) (other .0) || opposed (used (now (cells .entry)) (cursor .mark)) (t .0) (u .0))) ⌝ }
+{
+    if t.0 == other.0 {
+        return true;
+    }
+    if u.0 == other.0 {
+        return true;
+    }
+    opposites(cells, cursor, t, u)
+}
+
+// What `and` and `or` share: `unit` adds nothing, the other literal decides.
+fn joined(cells: &mut [u64], cursor: Cursor, op: u64, unit: TermPos, other: TermPos, t: TermPos, u: TermPos) -> TermStep
     requires { ⌜ Ready (λ a. Typed a tbool (t .0) × Typed a tbool (u .0)) (now cells) (cursor .mark) ⌝ }
     requires { ⌜ op ≤ 99 ⌝ }
-    ensures { λ r. ⌜ Did (λ a. junction op (unit .0) (zero .0) a (t .0) (u .0)) (now (cells .entry)) (cursor .mark) (termReply r) (now (cells .exit)) ⌝ }
+    ensures { λ r. ⌜ Did (λ a. junction op (unit .0) (other .0) a (t .0) (u .0)) (now (cells .entry)) (cursor .mark) (termReply r) (now (cells .exit)) ⌝ }
 {
     if first_alone(t, u, unit) {
         return TermStep::At(cursor, t);
@@ -136,8 +153,8 @@ fn joined(cells: &mut [u64], cursor: Cursor, op: u64, unit: TermPos, zero: TermP
     if t.0 == unit.0 {
         return TermStep::At(cursor, u);
     }
-    if t.0 == zero.0 || u.0 == zero.0 || opposites(cells, cursor, t, u) {
-        return TermStep::At(cursor, zero);
+    if decided(cells, cursor, t, u, other) {
+        return TermStep::At(cursor, other);
     }
     app2(cells, cursor, op, BOOL, t, u)
 }
