@@ -65,7 +65,7 @@ module _ {a : Nodes} (w : WF a) {y : Ty} (g t u : ℕ) (k : Typed a tbool g) (m 
   first I (inr e) = rw (← eqb-true t u e) (pick-same (B I a g) (meaning I a t))
 
   -- the guard is a literal, and so is the arm that it chooses
-  abbrev Chosen : Type 0
+  abbrev pub Chosen : Type 0
   Chosen = Lit a g × (g ≡ T → Lit a t) × (g ≡ F → Lit a u)
 
   chosen-first : (eqb g T ≡ true) ⊎ (eqb t u ≡ true) → Chosen → Lit a t
@@ -76,7 +76,7 @@ module _ {a : Nodes} (w : WF a) {y : Ty} (g t u : ℕ) (k : Typed a tbool g) (m 
       go (inl q) = ap (isLit a) (eqb-true t u e) ∙ l .2 q
       go (inr q) = l .1 q
 
-  simplify-law : Law a Chosen y (λ I. means25 (meaning I a g) (meaning I a t) (meaning I a u)) (iteSimplify a g t u)
+  pub simplify-law : Law a Chosen y (λ I. means25 (meaning I a g) (meaning I a t) (meaning I a u)) (iteSimplify a g t u)
   unfolding iteSimplify asBool meanNode term coreMeans positions
   simplify-law =
       law-if (eqb g T || eqb t u) _ _

@@ -11,3 +11,5 @@ pub mod SetLaws
 pub mod Records
 pub mod Options
 pub mod Guards
+pub mod Calls
+pub mod Operands
