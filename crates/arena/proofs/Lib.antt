@@ -32,8 +32,9 @@ pub mod Read
 pub mod Tiling
 pub mod Scan
 pub mod Padded
-pub mod Walks
+pub mod Rules
 pub mod Lent
+pub mod Visit
 -- by computation
 pub mod Examples
 pub mod Steps

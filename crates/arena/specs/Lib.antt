@@ -5,6 +5,7 @@ pub mod Cells
 pub mod Walks
 pub mod WellFormed
 pub mod Lent
+pub mod Visit
 pub mod Values
 pub mod Meaning
 pub mod Fresh

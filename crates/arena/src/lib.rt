@@ -2,6 +2,7 @@
 
 pub mod cells;
 pub mod cursor;
+pub mod walks;
 
 // The cells of a node before its members.
 pub const HEADER: usize = 4;
