@@ -250,23 +250,6 @@ fn ite_simplify(cells: &mut [u64], cursor: Cursor, g: TermPos, t: TermPos, u: Te
     cursor.term_node(cells, 125, ty, 0, &members)
 }
 
-pub fn ite(cells: &mut [u64], cursor: Cursor, g: TermPos, t: TermPos, u: TermPos) -> TermStep
-    requires { ⌜ Ready (λ a. Typed a tbool (g .0) × Alike a (t .0) (u .0)) (now cells) (cursor .mark) ⌝ }
-    ensures { λ r. ⌜ Did (λ a. iteT a (g .0) (t .0) (u .0)) (now (cells .entry)) (cursor .mark) (termReply r) (now (cells .exit)) ⌝ }
-{
-    let k = kind_of(cells, cursor.mark, t.0);
-    let l = kind_of(cells, cursor.mark, u.0);
-    if all2(k == 19, l == 19) {
-        let x = TermPos(arg_of(cells, cursor.mark, t.0, 0));
-        let y = TermPos(arg_of(cells, cursor.mark, u.0, 0));
-        return match ite_simplify(cells, cursor, g, x, y) {
-            TermStep::At(next, s) => some_of(cells, next, s),
-            TermStep::Full => TermStep::Full,
-        };
-    }
-    ite_simplify(cells, cursor, g, t, u)
-}
-
 // `app` of an uninterpreted function.
 pub fn uninterpreted(
     cells: &mut [u64],
@@ -399,34 +382,4 @@ pub fn option_get(cells: &mut [u64], cursor: Cursor, t: TermPos) -> TermStep
     }
     let ty = elem_of(cells, cursor, t);
     app1(cells, cursor, 55, ty, t)
-}
-
-// ---------- Helper functions for constructing compound terms ----------
-
-pub fn if_false(cells: &mut [u64], cursor: Cursor, g: TermPos, t: TermPos) -> TermStep
-    requires { ⌜ Ready (λ a. Typed a tbool (g .0) × isTerm a (t .0) ≡ true) (now cells) (cursor .mark) ⌝ }
-    ensures { λ r. ⌜ Did (λ a. ifFalse a (g .0) (t .0)) (now (cells .entry)) (cursor .mark) (termReply r) (now (cells .exit)) ⌝ }
-{
-    let ty = type_of(cells, cursor.mark, t);
-    match none_of(cells, cursor, ty) {
-        TermStep::At(next, n) => match some_of(cells, next, t) {
-            TermStep::At(last, s) => ite(cells, last, g, n, s),
-            TermStep::Full => TermStep::Full,
-        },
-        TermStep::Full => TermStep::Full,
-    }
-}
-
-pub fn if_true(cells: &mut [u64], cursor: Cursor, g: TermPos, t: TermPos) -> TermStep
-    requires { ⌜ Ready (λ a. Typed a tbool (g .0) × isTerm a (t .0) ≡ true) (now cells) (cursor .mark) ⌝ }
-    ensures { λ r. ⌜ Did (λ a. ifTrue a (g .0) (t .0)) (now (cells .entry)) (cursor .mark) (termReply r) (now (cells .exit)) ⌝ }
-{
-    let ty = type_of(cells, cursor.mark, t);
-    match some_of(cells, cursor, t) {
-        TermStep::At(next, s) => match none_of(cells, next, ty) {
-            TermStep::At(last, n) => ite(cells, last, g, s, n),
-            TermStep::Full => TermStep::Full,
-        },
-        TermStep::Full => TermStep::Full,
-    }
 }

@@ -78,7 +78,8 @@ slice-aggregate-term-node : tie.Need-slice-aggregate-term-node
 slice-aggregate-term-node c = search needs
 
 term-node-requires : tie.Need-term-node-requires
-term-node-requires c κs = ?
+term-node-requires c κs =
+    c .before .before .before .before .before .before .before .before .before .before .before .before .before .before .before .before .before .before .before .before .before .before .before .before .before .before .before .before .before .before .before .before .pre .arena
 
 same-length-4 : tie.Need-same-length-4
 same-length-4 c = search needs
