@@ -17,7 +17,7 @@ use Rattle.arena.proofs.View.{is-ite}
 use Rattle.arena.proofs.Sound.{bool-at}
 use Rattle.arena.proofs.Known.{Lit, B, some-node, lit-bool, no-lit}
 use Rattle.factory.specs.Makers.{boolAt}
-use Rattle.factory.specs.Core.{iteSimplify, iteT}
+use Rattle.factory.specs.Core.{iteSimplify, iteOfSomes, iteT}
 use Rattle.factory.specs.Meanings.{means25}
 use Rattle.factory.proofs.Law.{Typed, tm-typed, bool-tm, same-tm, Law, stay, applied, reads, retyped, onward, law-if}
 use Rattle.factory.proofs.Made.{bool-at-means, some-law}
@@ -105,7 +105,7 @@ module _ {a : Nodes} (w : WF a) {y : Ty} (g t u : ℕ) (k : Typed a tbool g) (m 
 -- a literal where the guard and the arm that it chooses are
 pub chosen-law : {a : Nodes} → WF a → {y : Ty} (g t u : ℕ) → Typed a tbool g → Typed a y t → Typed a y u
     → Law a (Lit a g × (g ≡ T → Lit a t) × (g ≡ F → Lit a u)) y (λ I. means25 (meaning I a g) (meaning I a t) (meaning I a u)) (iteT a g t u)
-unfolding iteT
+unfolding iteT iteOfSomes
 chosen-law {a} w {y} g t u k m n =
     law-if (eqb (kindAt a t) 19 && eqb (kindAt a u) 19) _ _
     (λ e.

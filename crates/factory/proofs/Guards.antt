@@ -22,7 +22,7 @@ use Rattle.arena.proofs.Base.{false-lit, false-means}
 use Rattle.arena.proofs.Known.{Lit, B}
 use Rattle.factory.specs.Makers.{noneOf, someOf}
 use Rattle.factory.specs.Core.{orT, iteT}
-use Rattle.factory.specs.Helpers.{isNone, ifFalse, ifTrue, isOption, guarded, ifSome, anyNoneOn, anyNone, ifAllSome}
+use Rattle.factory.specs.Helpers.{isNone, orSome, ifFalse, orNone, ifTrue, isOption, guarded, ifSome, anyNoneOn, anyNone, ifAllSome}
 use Rattle.factory.specs.Meanings.{isNoneV, anyNoneV, isOpt, optional, lifted, means62, means63, means64, means65, means66}
 use Rattle.factory.proofs.Law.{Typed, typed-type, tm-bool, opt-typed, typed-ext, mean-old, lit-old, Law, reads, onward}
 use Rattle.factory.proofs.Lists.{means-old, lits-old, terms-old}
@@ -52,7 +52,7 @@ module _ {a : Nodes} (w : WF a) {y : Ty} (g t : ℕ) (k : Typed a tbool g) (m : 
 
   -- a literal where the guard is, and the term if it is chosen
   unless-law : Law a (Lit a g × (g ≡ F → Lit a t)) (topt y) (λ I. means62 (meaning I a g) (meaning I a t)) (ifFalse a g t)
-  unfolding ifFalse
+  unfolding ifFalse orSome
   unless-law =
       let n = none-law w {L = Unit {0}} (typeAt a t) (typed-type w m) (m .typed) in
       let b = noneOf a (typeAt a t) in
@@ -68,7 +68,7 @@ module _ {a : Nodes} (w : WF a) {y : Ty} (g t : ℕ) (k : Typed a tbool g) (m : 
   ifFalse-law = reads unless-law (λ l. (l .0, (λ q. l .1))) (λ I G. refl)
 
   pub ifTrue-law : Law a (Lit a g × Lit a t) (topt y) (λ I. means63 (meaning I a g) (meaning I a t)) (ifTrue a g t)
-  unfolding ifTrue
+  unfolding ifTrue orNone
   ifTrue-law =
       let s = some-law w t m in
       let b = someOf a t in

@@ -3,21 +3,23 @@ use mathlib.Core.Path.{_≡_, refl, sym, ap, _∙_, subst}
 use Prim.Native.Nat.{ℕ, _^_, _≤_, _<_}
 use native.Mathlib.Omega.{arith}
 use mathlib.Core.Bool.{Bool, true, _&&_}
+use mathlib.Core.Logic.{inl}
 use lib.Dec.{eqb}
 use borrow.Author.Tests.{eqb-true, leb-true}
 use Rattle.bitvec.specs.Theory.{IsWidth, IsBv, AreBv}
 use Rattle.arena.specs.Nodes.{Nodes, kindAt, typeAt, parAt, argAt, elemAt, widthAt}
 use Rattle.arena.specs.WellFormed.{isType, isTerm}
-use Rattle.arena.specs.Values.{tbool}
+use Rattle.arena.specs.Values.{Ty, tbool, topt}
 use Rattle.arena.specs.Meaning.{tyOf, tyAt}
 use Rattle.arena.proofs.Bools.{every-all, and-l, and-r}
 use Rattle.arena.proofs.Chain.{WF, term-type}
 use Rattle.arena.proofs.Types.{width-range}
 use Rattle.arena.proofs.Known.{bv-node, some-node}
+use Rattle.arena.proofs.Whole.{elem-type}
 use Rattle.factory.specs.Fit.{Typed, Alike, OfKind}
 use Rattle.factory.specs.Bitvectors.{bothBv}
 use Rattle.factory.specs.Makers.{boolAt}
-use Rattle.factory.proofs.Law.{tm-typed, same-tm}
+use Rattle.factory.proofs.Law.{tm-typed, same-tm, opt-typed}
 use Rattle.factory.proofs.Equal.{bool-type-of, as-bool, some-type, some-inner}
 
 module _ {a : Nodes} (w : WF a) where
@@ -54,3 +56,14 @@ module _ {a : Nodes} (w : WF a) where
 
   pub bool-arm' : (b : Bool) (t u : ℕ) → u ≡ boolAt b → Alike a t u → Typed a tbool t
   bool-arm' b t u e m = as-bool w (bool-type-of w b u e (m .1)) (m .0)
+
+  -- an option's element type
+  pub opt-type : (t : ℕ) → OfKind a 3 t → isType a (elemAt a t) ≡ true
+  opt-type t k = elem-type w (typeAt a t) (inl (k .sort))
+
+  pub opt-of : (t : ℕ) → OfKind a 3 t → Typed a (topt (tyOf a (elemAt a t))) t
+  opt-of t k = opt-typed w t (k .isterm) (k .sort)
+
+-- two terms of one type
+pub alike : {a : Nodes} {y : Ty} {x z : ℕ} → Typed a y x → Typed a y z → Alike a x z
+alike m n = (record { isterm = m .isterm; typed = refl }, record { isterm = n .isterm; typed = n .typed ∙ sym (m .typed) })

@@ -62,9 +62,12 @@ iteSimplify a g t u =
     (cond (eqb t T) (orT a g u) (app a 25 (typeAt a t) (g ∷ t ∷ u ∷ [])))))))
 
 -- one layer of Some goes round the whole
+unfoldable pub iteOfSomes : Nodes → ℕ → ℕ → ℕ → Out
+iteOfSomes a g x y = iteSimplify a g x y ⨟ someOf
+
 unfoldable pub iteT : Nodes → ℕ → ℕ → ℕ → Out
 iteT a g t u =
-    cond (eqb (kindAt a t) 19 && eqb (kindAt a u) 19) (iteSimplify a g (argAt a t 0) (argAt a u 0) ⨟ someOf) (iteSimplify a g t u)
+    cond (eqb (kindAt a t) 19 && eqb (kindAt a u) 19) (iteOfSomes a g (argAt a t 0) (argAt a u 0)) (iteSimplify a g t u)
 
 -- `app` of an uninterpreted function
 unfoldable pub uninterpreted : Nodes → ℕ → ℕ → ℕ → Out

@@ -33,13 +33,21 @@ isNone a t =
 unfoldable pub isSome : Nodes → ℕ → Out
 isSome a t = isNone a t ⨟ notT
 
+-- the Some, and the choice
+unfoldable pub orSome : Nodes → ℕ → ℕ → ℕ → Out
+orSome a g n t = someOf a t ⨟ λ b s. iteT b g n s
+
 -- None is made before Some
 unfoldable pub ifFalse : Nodes → ℕ → ℕ → Out
-ifFalse a g t = noneOf a (typeAt a t) ⨟ λ b n. someOf b t ⨟ λ c s. iteT c g n s
+ifFalse a g t = noneOf a (typeAt a t) ⨟ λ b n. orSome b g n t
 
--- and after it
+-- the None, and the choice
+unfoldable pub orNone : Nodes → ℕ → ℕ → ℕ → Out
+orNone a g s t = noneOf a (typeAt a t) ⨟ λ b n. iteT b g s n
+
+-- and here after it
 unfoldable pub ifTrue : Nodes → ℕ → ℕ → Out
-ifTrue a g t = someOf a t ⨟ λ b s. noneOf b (typeAt b t) ⨟ λ c n. iteT c g s n
+ifTrue a g t = someOf a t ⨟ λ b s. orNone b g s t
 
 abbrev pub isOption : Nodes → ℕ → Bool
 isOption a t = eqb (kindAt a t) 3

@@ -9,6 +9,7 @@ use arena::cells::type_of;
 use arena::cursor::Cursor;
 use arena::cursor::TermStep;
 use arena::cursor::TypeStep;
+use arena::walks::is_literal;
 use bitvec::Width;
 ghost use mathlib.Core.Path.{_≡_};
 ghost use mathlib.Core.Bool.{true, _&&_, _||_};
@@ -18,14 +19,16 @@ ghost use lib.Dec.{eqb};
 ghost use Rattle.arena.specs.Nodes.{F, T, elemAt, widthAt};
 ghost use Rattle.arena.specs.Cells.{used};
 ghost use Rattle.arena.specs.WellFormed.{isType, isTerm, IsArena};
-ghost use Rattle.arena.specs.Values.{tbool};
+ghost use Rattle.arena.specs.Walks.{isLit};
+ghost use Rattle.arena.specs.Values.{tbool, topt};
+ghost use Rattle.arena.specs.Meaning.{tyAt};
 ghost use Rattle.arena.specs.Did.{Did, termReply, typeReply};
 ghost use Rattle.factory.specs.Fit.{Typed, Alike, OfKind, Ready};
 ghost use Rattle.factory.specs.Makers.{boolAt, bitvecType, optionType, setType, recordType, bitvecLit, variable as variableOf, noneOf, someOf, app};
-ghost use Rattle.factory.specs.Core.{notT, opposites as opposed, junction, andT, orT, implies as impliesT, iteSimplify, iteT, uninterpreted as uninterpretedOf};
+ghost use Rattle.factory.specs.Core.{notT, opposites as opposed, junction, andT, orT, implies as impliesT, eqSimplify, eqT, iteSimplify, iteOfSomes, iteT, uninterpreted as uninterpretedOf};
 ghost use Rattle.factory.specs.Bitvectors.{bothBv, bvnegT, bvappT, bvcmpT, bvnegoT, bvsoT};
 ghost use Rattle.factory.specs.SetSteps.{optionGet};
-ghost use Rattle.factory.specs.Helpers.{ifFalse, ifTrue};
+ghost use Rattle.factory.specs.Helpers.{eqNone, isNoneIte, isNone, isSome, orSome, ifFalse, orNone, ifTrue};
 
 // Where Bool, false and true stand in every arena.
 const BOOL: TypePos = TypePos(0);
@@ -222,6 +225,60 @@ pub fn implies(cells: &mut [u64], cursor: Cursor, t: TermPos, u: TermPos) -> Ter
     }
 }
 
+// Whether both are literals.
+fn both_literal(cells: &[u64], cursor: Cursor, t: TermPos, u: TermPos) -> bool
+    requires { ⌜ Ready (λ a. Alike a (t .0) (u .0)) (now cells) (cursor .mark) ⌝ }
+    ensures { λ r. ⌜ r ≡ (isLit (used (now (cells .entry)) (cursor .mark)) (t .0) && isLit (used (now (cells .entry)) (cursor .mark)) (u .0)) ⌝ }
+{
+    if is_literal(cells, cursor.mark, t.0 as usize) {
+        return is_literal(cells, cursor.mark, u.0 as usize);
+    }
+    false
+}
+
+// The closure of `eq`. A term that is compared with true or false here is of type Bool, since the two are of one type.
+fn eq_simplify(cells: &mut [u64], cursor: Cursor, t: TermPos, u: TermPos) -> TermStep
+    requires { ⌜ Ready (λ a. Alike a (t .0) (u .0)) (now cells) (cursor .mark) ⌝ }
+    ensures { λ r. ⌜ Did (λ a. eqSimplify a (t .0) (u .0)) (now (cells .entry)) (cursor .mark) (termReply r) (now (cells .exit)) ⌝ }
+{
+    if t.0 == u.0 {
+        return TermStep::At(cursor, TRUE);
+    }
+    if both_literal(cells, cursor, t, u) {
+        return TermStep::At(cursor, FALSE);
+    }
+    if t.0 == TRUE.0 {
+        return TermStep::At(cursor, u);
+    }
+    if u.0 == TRUE.0 {
+        return TermStep::At(cursor, t);
+    }
+    if t.0 == FALSE.0 {
+        return not(cells, cursor, u);
+    }
+    if u.0 == FALSE.0 {
+        return not(cells, cursor, t);
+    }
+    app2(cells, cursor, 24, BOOL, t, u)
+}
+
+pub fn eq(cells: &mut [u64], cursor: Cursor, t: TermPos, u: TermPos) -> TermStep
+    requires { ⌜ Ready (λ a. Alike a (t .0) (u .0)) (now cells) (cursor .mark) ⌝ }
+    ensures { λ r. ⌜ Did (λ a. eqT a (t .0) (u .0)) (now (cells .entry)) (cursor .mark) (termReply r) (now (cells .exit)) ⌝ }
+{
+    let k = kind_of(cells, cursor.mark, t.0);
+    let l = kind_of(cells, cursor.mark, u.0);
+    if all2(k == 19, l == 19) {
+        let x = TermPos(arg_of(cells, cursor.mark, t.0, 0));
+        let y = TermPos(arg_of(cells, cursor.mark, u.0, 0));
+        return eq_simplify(cells, cursor, x, y);
+    }
+    if any2(all2(k == 19, l == 18), all2(k == 18, l == 19)) {
+        return TermStep::At(cursor, FALSE);
+    }
+    eq_simplify(cells, cursor, t, u)
+}
+
 // The closure of `ite`.
 fn ite_simplify(cells: &mut [u64], cursor: Cursor, g: TermPos, t: TermPos, u: TermPos) -> TermStep
     requires { ⌜ Ready (λ a. Typed a tbool (g .0) × Alike a (t .0) (u .0)) (now cells) (cursor .mark) ⌝ }
@@ -248,6 +305,31 @@ fn ite_simplify(cells: &mut [u64], cursor: Cursor, g: TermPos, t: TermPos, u: Te
     let ty = type_of(cells, cursor.mark, t);
     let members = [g.0, t.0, u.0];
     cursor.term_node(cells, 125, ty, 0, &members)
+}
+
+// `ite` of two Somes: one layer goes round the whole.
+fn ite_of_somes(cells: &mut [u64], cursor: Cursor, g: TermPos, x: TermPos, y: TermPos) -> TermStep
+    requires { ⌜ Ready (λ a. Typed a tbool (g .0) × Alike a (x .0) (y .0)) (now cells) (cursor .mark) ⌝ }
+    ensures { λ r. ⌜ Did (λ a. iteOfSomes a (g .0) (x .0) (y .0)) (now (cells .entry)) (cursor .mark) (termReply r) (now (cells .exit)) ⌝ }
+{
+    match ite_simplify(cells, cursor, g, x, y) {
+        TermStep::At(next, s) => some_of(cells, next, s),
+        TermStep::Full => TermStep::Full,
+    }
+}
+
+pub fn ite(cells: &mut [u64], cursor: Cursor, g: TermPos, t: TermPos, u: TermPos) -> TermStep
+    requires { ⌜ Ready (λ a. Typed a tbool (g .0) × Alike a (t .0) (u .0)) (now cells) (cursor .mark) ⌝ }
+    ensures { λ r. ⌜ Did (λ a. iteT a (g .0) (t .0) (u .0)) (now (cells .entry)) (cursor .mark) (termReply r) (now (cells .exit)) ⌝ }
+{
+    let k = kind_of(cells, cursor.mark, t.0);
+    let l = kind_of(cells, cursor.mark, u.0);
+    if all2(k == 19, l == 19) {
+        let x = TermPos(arg_of(cells, cursor.mark, t.0, 0));
+        let y = TermPos(arg_of(cells, cursor.mark, u.0, 0));
+        return ite_of_somes(cells, cursor, g, x, y);
+    }
+    ite_simplify(cells, cursor, g, t, u)
 }
 
 // `app` of an uninterpreted function.
@@ -382,4 +464,118 @@ pub fn option_get(cells: &mut [u64], cursor: Cursor, t: TermPos) -> TermStep
     }
     let ty = elem_of(cells, cursor, t);
     app1(cells, cursor, 55, ty, t)
+}
+
+// ---------- Helper functions for constructing compound terms ----------
+
+// The test that stands where nothing folds.
+fn eq_none(cells: &mut [u64], cursor: Cursor, t: TermPos) -> TermStep
+    requires { ⌜ Ready (λ a. OfKind a 3 (t .0)) (now cells) (cursor .mark) ⌝ }
+    ensures { λ r. ⌜ Did (λ a. eqNone a (t .0)) (now (cells .entry)) (cursor .mark) (termReply r) (now (cells .exit)) ⌝ }
+{
+    let ty = elem_of(cells, cursor, t);
+    match none_of(cells, cursor, ty) {
+        TermStep::At(next, n) => eq(cells, next, t, n),
+        TermStep::Full => TermStep::Full,
+    }
+}
+
+// `is_none` of an ite with the guard g and the arms x and y.
+fn is_none_ite(
+    cells: &mut [u64],
+    cursor: Cursor,
+    t: TermPos,
+    g: TermPos,
+    x: TermPos,
+    y: TermPos,
+) -> TermStep
+    requires { ⌜ Ready (λ a. OfKind a 3 (t .0) × Typed a tbool (g .0) × isTerm a (x .0) ≡ true × isTerm a (y .0) ≡ true) (now cells) (cursor .mark) ⌝ }
+    ensures { λ r. ⌜ Did (λ a. isNoneIte a (t .0) (g .0) (x .0) (y .0)) (now (cells .entry)) (cursor .mark) (termReply r) (now (cells .exit)) ⌝ }
+{
+    let k = kind_of(cells, cursor.mark, x.0);
+    let l = kind_of(cells, cursor.mark, y.0);
+    if all2(k == 19, l == 19) {
+        return TermStep::At(cursor, FALSE);
+    }
+    if all2(k == 19, l == 18) {
+        return not(cells, cursor, g);
+    }
+    if all2(k == 18, l == 19) {
+        return TermStep::At(cursor, g);
+    }
+    eq_none(cells, cursor, t)
+}
+
+pub fn is_none(cells: &mut [u64], cursor: Cursor, t: TermPos) -> TermStep
+    requires { ⌜ Ready (λ a. OfKind a 3 (t .0)) (now cells) (cursor .mark) ⌝ }
+    ensures { λ r. ⌜ Did (λ a. isNone a (t .0)) (now (cells .entry)) (cursor .mark) (termReply r) (now (cells .exit)) ⌝ }
+{
+    let k = kind_of(cells, cursor.mark, t.0);
+    if k == 18 {
+        return TermStep::At(cursor, TRUE);
+    }
+    if k == 19 {
+        return TermStep::At(cursor, FALSE);
+    }
+    if k == 125 {
+        let g = TermPos(arg_of(cells, cursor.mark, t.0, 0));
+        let x = TermPos(arg_of(cells, cursor.mark, t.0, 1));
+        let y = TermPos(arg_of(cells, cursor.mark, t.0, 2));
+        return is_none_ite(cells, cursor, t, g, x, y);
+    }
+    eq_none(cells, cursor, t)
+}
+
+pub fn is_some(cells: &mut [u64], cursor: Cursor, t: TermPos) -> TermStep
+    requires { ⌜ Ready (λ a. OfKind a 3 (t .0)) (now cells) (cursor .mark) ⌝ }
+    ensures { λ r. ⌜ Did (λ a. isSome a (t .0)) (now (cells .entry)) (cursor .mark) (termReply r) (now (cells .exit)) ⌝ }
+{
+    match is_none(cells, cursor, t) {
+        TermStep::At(next, n) => not(cells, next, n),
+        TermStep::Full => TermStep::Full,
+    }
+}
+
+// `if_false` with its None made.
+fn or_some(cells: &mut [u64], cursor: Cursor, g: TermPos, n: TermPos, t: TermPos) -> TermStep
+    requires { ⌜ Ready (λ a. Typed a tbool (g .0) × isTerm a (t .0) ≡ true × Typed a (topt (tyAt a (t .0))) (n .0)) (now cells) (cursor .mark) ⌝ }
+    ensures { λ r. ⌜ Did (λ a. orSome a (g .0) (n .0) (t .0)) (now (cells .entry)) (cursor .mark) (termReply r) (now (cells .exit)) ⌝ }
+{
+    match some_of(cells, cursor, t) {
+        TermStep::At(next, s) => ite(cells, next, g, n, s),
+        TermStep::Full => TermStep::Full,
+    }
+}
+
+pub fn if_false(cells: &mut [u64], cursor: Cursor, g: TermPos, t: TermPos) -> TermStep
+    requires { ⌜ Ready (λ a. Typed a tbool (g .0) × isTerm a (t .0) ≡ true) (now cells) (cursor .mark) ⌝ }
+    ensures { λ r. ⌜ Did (λ a. ifFalse a (g .0) (t .0)) (now (cells .entry)) (cursor .mark) (termReply r) (now (cells .exit)) ⌝ }
+{
+    let ty = type_of(cells, cursor.mark, t);
+    match none_of(cells, cursor, ty) {
+        TermStep::At(next, n) => or_some(cells, next, g, n, t),
+        TermStep::Full => TermStep::Full,
+    }
+}
+
+// `if_true` with its Some made.
+fn or_none(cells: &mut [u64], cursor: Cursor, g: TermPos, s: TermPos, t: TermPos) -> TermStep
+    requires { ⌜ Ready (λ a. Typed a tbool (g .0) × isTerm a (t .0) ≡ true × Typed a (topt (tyAt a (t .0))) (s .0)) (now cells) (cursor .mark) ⌝ }
+    ensures { λ r. ⌜ Did (λ a. orNone a (g .0) (s .0) (t .0)) (now (cells .entry)) (cursor .mark) (termReply r) (now (cells .exit)) ⌝ }
+{
+    let ty = type_of(cells, cursor.mark, t);
+    match none_of(cells, cursor, ty) {
+        TermStep::At(next, n) => ite(cells, next, g, s, n),
+        TermStep::Full => TermStep::Full,
+    }
+}
+
+pub fn if_true(cells: &mut [u64], cursor: Cursor, g: TermPos, t: TermPos) -> TermStep
+    requires { ⌜ Ready (λ a. Typed a tbool (g .0) × isTerm a (t .0) ≡ true) (now cells) (cursor .mark) ⌝ }
+    ensures { λ r. ⌜ Did (λ a. ifTrue a (g .0) (t .0)) (now (cells .entry)) (cursor .mark) (termReply r) (now (cells .exit)) ⌝ }
+{
+    match some_of(cells, cursor, t) {
+        TermStep::At(next, s) => or_none(cells, next, g, s, t),
+        TermStep::Full => TermStep::Full,
+    }
 }
