@@ -1,0 +1,3 @@
+-- One call: the table of operations, the refusals in their order, and what is answered.
+pub mod Table
+pub mod Call

@@ -1,0 +1,1 @@
+// One call on a lent arena.

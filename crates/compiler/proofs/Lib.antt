@@ -1,0 +1,4 @@
+-- The laws of the compiled operators.
+pub mod Unary
+pub mod Attributes
+pub mod Record

@@ -1,0 +1,3 @@
+-- The compiled operators, step by step as compiler.rs.
+pub mod Compiler
+pub mod Meanings

@@ -1,0 +1,1 @@
+// The compiled operators: compiler.rs, for records, over a lent arena.

@@ -1,0 +1,581 @@
+// The factory: factory.rs, function by function in its order, over a lent arena. Each function builds the nodes that the Rust's text names, in the
+// order in which Rust evaluates it, and answers the term with the cursor behind it, or no room.
+use arena::TermPos;
+use arena::TypePos;
+use arena::cells::arg_of;
+use arena::cells::kind_of;
+use arena::cells::par_of;
+use arena::cells::type_of;
+use arena::cursor::Cursor;
+use arena::cursor::TermStep;
+use arena::cursor::TypeStep;
+use arena::walks::is_literal;
+use bitvec::Width;
+ghost use mathlib.Core.Path.{_≡_};
+ghost use mathlib.Core.Bool.{true, _&&_, _||_};
+ghost use mathlib.Core.List.{[], _∷_};
+ghost use Prim.Native.Nat.{_+_, _≤_};
+ghost use lib.Dec.{eqb};
+ghost use Rattle.arena.specs.Nodes.{F, T, elemAt, widthAt};
+ghost use Rattle.arena.specs.Cells.{used};
+ghost use Rattle.arena.specs.WellFormed.{isType, isTerm, IsArena};
+ghost use Rattle.arena.specs.Walks.{isLit};
+ghost use Rattle.arena.specs.Values.{tbool, topt};
+ghost use Rattle.arena.specs.Meaning.{tyAt};
+ghost use Rattle.arena.specs.Did.{Did, termReply, typeReply};
+ghost use Rattle.factory.specs.Fit.{Typed, Alike, OfKind, Ready};
+ghost use Rattle.factory.specs.Makers.{boolAt, bitvecType, optionType, setType, recordType, bitvecLit, variable as variableOf, noneOf, someOf, app};
+ghost use Rattle.factory.specs.Core.{notT, opposites as opposed, junction, andT, orT, implies as impliesT, eqSimplify, eqT, iteSimplify, iteOfSomes, iteT, uninterpreted as uninterpretedOf};
+ghost use Rattle.factory.specs.Bitvectors.{bothBv, bvnegT, bvappT, bvcmpT, bvnegoT, bvsoT};
+ghost use Rattle.factory.specs.SetSteps.{optionGet};
+ghost use Rattle.factory.specs.Helpers.{eqNone, isNoneIte, isNone, isSome, orSome, ifFalse, orNone, ifTrue};
+
+// Where Bool, false and true stand in every arena.
+const BOOL: TypePos = TypePos(0);
+
+const FALSE: TermPos = TermPos(4);
+
+const TRUE: TermPos = TermPos(8);
+
+// Tests put together.
+fn any2(a: bool, b: bool) -> bool
+    ensures { λ r. ⌜ r ≡ (a || b) ⌝ }
+{
+    if a { true } else { b }
+}
+
+fn all2(a: bool, b: bool) -> bool
+    ensures { λ r. ⌜ r ≡ (a && b) ⌝ }
+{
+    if a { b } else { false }
+}
+
+fn bool_at(b: bool) -> TermPos
+    ensures { λ r. ⌜ r .0 ≡ boolAt b ⌝ }
+{
+    if b { TRUE } else { FALSE }
+}
+
+// ---------- Types ----------
+
+pub fn bitvec_type(cells: &mut [u64], cursor: Cursor, width: Width) -> TypeStep
+    requires { ⌜ IsArena (now cells) (cursor .mark) ⌝ }
+    ensures { λ r. ⌜ Did (λ a. bitvecType a (width .0)) (now (cells .entry)) (cursor .mark) (typeReply r) (now (cells .exit)) ⌝ }
+{
+    let none = [0u64; 1];
+    cursor.type_node(cells, 2, width.0, &none[..0])
+}
+
+pub fn option_type(cells: &mut [u64], cursor: Cursor, ty: TypePos) -> TypeStep
+    requires { ⌜ IsArena (now cells) (cursor .mark) ⌝ }
+    ensures { λ r. ⌜ Did (λ a. optionType a (ty .0)) (now (cells .entry)) (cursor .mark) (typeReply r) (now (cells .exit)) ⌝ }
+{
+    let of = [ty.0];
+    cursor.type_node(cells, 3, 0, &of)
+}
+
+// ---------- Checked term constructors ----------
+
+pub fn none_of(cells: &mut [u64], cursor: Cursor, ty: TypePos) -> TermStep
+    requires { ⌜ Ready (λ a. isType a (ty .0) ≡ true) (now cells) (cursor .mark) ⌝ }
+    ensures { λ r. ⌜ Did (λ a. noneOf a (ty .0)) (now (cells .entry)) (cursor .mark) (termReply r) (now (cells .exit)) ⌝ }
+{
+    let of = [ty.0];
+    let none = [0u64; 1];
+    cursor.typed_node(cells, 3, 0, &of, 18, 0, &none[..0])
+}
+
+pub fn some_of(cells: &mut [u64], cursor: Cursor, t: TermPos) -> TermStep
+    requires { ⌜ Ready (λ a. isTerm a (t .0) ≡ true) (now cells) (cursor .mark) ⌝ }
+    ensures { λ r. ⌜ Did (λ a. someOf a (t .0)) (now (cells .entry)) (cursor .mark) (termReply r) (now (cells .exit)) ⌝ }
+{
+    let of = [type_of(cells, cursor.mark, t).0];
+    let members = [t.0];
+    cursor.typed_node(cells, 3, 0, &of, 19, 0, &members)
+}
+
+// A bitvector literal of a Bitvec type.
+pub fn bitvec_lit(cells: &mut [u64], cursor: Cursor, ty: TypePos, v: u64) -> TermStep
+    requires { ⌜ IsArena (now cells) (cursor .mark) ⌝ }
+    ensures { λ r. ⌜ Did (λ a. bitvecLit a (ty .0) v) (now (cells .entry)) (cursor .mark) (termReply r) (now (cells .exit)) ⌝ }
+{
+    let none = [0u64; 1];
+    cursor.term_node(cells, 17, ty, v, &none[..0])
+}
+
+pub fn variable(cells: &mut [u64], cursor: Cursor, id: u64, ty: TypePos) -> TermStep
+    requires { ⌜ IsArena (now cells) (cursor .mark) ⌝ }
+    ensures { λ r. ⌜ Did (λ a. variableOf a id (ty .0)) (now (cells .entry)) (cursor .mark) (termReply r) (now (cells .exit)) ⌝ }
+{
+    let none = [0u64; 1];
+    cursor.term_node(cells, 22, ty, id, &none[..0])
+}
+
+// ---------- SMTLib core theory of equality with uninterpreted functions (`UF`) ----------
+
+// Term::App of an operation with no parameter.
+fn app1(cells: &mut [u64], cursor: Cursor, op: u64, ty: TypePos, t: TermPos) -> TermStep
+    requires { ⌜ IsArena (now cells) (cursor .mark) ⌝ }
+    requires { ⌜ op ≤ 99 ⌝ }
+    ensures { λ r. ⌜ Did (λ a. app a op (ty .0) (t .0 ∷ [])) (now (cells .entry)) (cursor .mark) (termReply r) (now (cells .exit)) ⌝ }
+{
+    let members = [t.0];
+    cursor.term_node(cells, 100 + op, ty, 0, &members)
+}
+
+fn app2(cells: &mut [u64], cursor: Cursor, op: u64, ty: TypePos, t: TermPos, u: TermPos) -> TermStep
+    requires { ⌜ IsArena (now cells) (cursor .mark) ⌝ }
+    requires { ⌜ op ≤ 99 ⌝ }
+    ensures { λ r. ⌜ Did (λ a. app a op (ty .0) (t .0 ∷ u .0 ∷ [])) (now (cells .entry)) (cursor .mark) (termReply r) (now (cells .exit)) ⌝ }
+{
+    let members = [t.0, u.0];
+    cursor.term_node(cells, 100 + op, ty, 0, &members)
+}
+
+pub fn not(cells: &mut [u64], cursor: Cursor, t: TermPos) -> TermStep
+    requires { ⌜ Ready (λ a. Typed a tbool (t .0)) (now cells) (cursor .mark) ⌝ }
+    ensures { λ r. ⌜ Did (λ a. notT a (t .0)) (now (cells .entry)) (cursor .mark) (termReply r) (now (cells .exit)) ⌝ }
+{
+    if t.0 == TRUE.0 {
+        return TermStep::At(cursor, FALSE);
+    }
+    if t.0 == FALSE.0 {
+        return TermStep::At(cursor, TRUE);
+    }
+    if kind_of(cells, cursor.mark, t.0) == 120 {
+        return TermStep::At(cursor, TermPos(arg_of(cells, cursor.mark, t.0, 0)));
+    }
+    app1(cells, cursor, 20, BOOL, t)
+}
+
+pub fn opposites(cells: &[u64], cursor: Cursor, t: TermPos, u: TermPos) -> bool
+    requires { ⌜ Ready (λ a. Typed a tbool (t .0) × Typed a tbool (u .0)) (now cells) (cursor .mark) ⌝ }
+    ensures { λ r. ⌜ r ≡ opposed (used (now (cells .entry)) (cursor .mark)) (t .0) (u .0) ⌝ }
+{
+    if kind_of(cells, cursor.mark, u.0) == 120 {
+        return t.0 == arg_of(cells, cursor.mark, u.0, 0);
+    }
+    if kind_of(cells, cursor.mark, t.0) == 120 {
+        return arg_of(cells, cursor.mark, t.0, 0) == u.0;
+    }
+    false
+}
+
+// Whether `and` or `or` gives its other literal: one operand is that, or they are opposites.
+fn decided(cells: &[u64], cursor: Cursor, t: TermPos, u: TermPos, other: TermPos) -> bool
+    requires { ⌜ Ready (λ a. Typed a tbool (t .0) × Typed a tbool (u .0)) (now cells) (cursor .mark) ⌝ }
+    ensures { λ r. ⌜ r ≡ (eqb (t .0) (other .0) || (eqb (u .0) (other .0) || opposed (used (now (cells .entry)) (cursor .mark)) (t .0) (u .0))) ⌝ }
+{
+    if t.0 == other.0 {
+        return true;
+    }
+    if u.0 == other.0 {
+        return true;
+    }
+    opposites(cells, cursor, t, u)
+}
+
+// What `and` and `or` share: `unit` adds nothing, the other literal decides.
+fn joined(
+    cells: &mut [u64],
+    cursor: Cursor,
+    op: u64,
+    unit: TermPos,
+    other: TermPos,
+    t: TermPos,
+    u: TermPos,
+) -> TermStep
+    requires { ⌜ Ready (λ a. Typed a tbool (t .0) × Typed a tbool (u .0)) (now cells) (cursor .mark) ⌝ }
+    requires { ⌜ op ≤ 99 ⌝ }
+    ensures { λ r. ⌜ Did (λ a. junction op (unit .0) (other .0) a (t .0) (u .0)) (now (cells .entry)) (cursor .mark) (termReply r) (now (cells .exit)) ⌝ }
+{
+    if any2(t.0 == u.0, u.0 == unit.0) {
+        return TermStep::At(cursor, t);
+    }
+    if t.0 == unit.0 {
+        return TermStep::At(cursor, u);
+    }
+    if decided(cells, cursor, t, u, other) {
+        return TermStep::At(cursor, other);
+    }
+    app2(cells, cursor, op, BOOL, t, u)
+}
+
+pub fn and(cells: &mut [u64], cursor: Cursor, t: TermPos, u: TermPos) -> TermStep
+    requires { ⌜ Ready (λ a. Typed a tbool (t .0) × Typed a tbool (u .0)) (now cells) (cursor .mark) ⌝ }
+    ensures { λ r. ⌜ Did (λ a. andT a (t .0) (u .0)) (now (cells .entry)) (cursor .mark) (termReply r) (now (cells .exit)) ⌝ }
+{
+    joined(cells, cursor, 21, TRUE, FALSE, t, u)
+}
+
+pub fn or(cells: &mut [u64], cursor: Cursor, t: TermPos, u: TermPos) -> TermStep
+    requires { ⌜ Ready (λ a. Typed a tbool (t .0) × Typed a tbool (u .0)) (now cells) (cursor .mark) ⌝ }
+    ensures { λ r. ⌜ Did (λ a. orT a (t .0) (u .0)) (now (cells .entry)) (cursor .mark) (termReply r) (now (cells .exit)) ⌝ }
+{
+    joined(cells, cursor, 22, FALSE, TRUE, t, u)
+}
+
+pub fn implies(cells: &mut [u64], cursor: Cursor, t: TermPos, u: TermPos) -> TermStep
+    requires { ⌜ Ready (λ a. Typed a tbool (t .0) × Typed a tbool (u .0)) (now cells) (cursor .mark) ⌝ }
+    ensures { λ r. ⌜ Did (λ a. impliesT a (t .0) (u .0)) (now (cells .entry)) (cursor .mark) (termReply r) (now (cells .exit)) ⌝ }
+{
+    match not(cells, cursor, t) {
+        TermStep::At(next, n) => or(cells, next, n, u),
+        TermStep::Full => TermStep::Full,
+    }
+}
+
+// Whether both are literals.
+fn both_literal(cells: &[u64], cursor: Cursor, t: TermPos, u: TermPos) -> bool
+    requires { ⌜ Ready (λ a. Alike a (t .0) (u .0)) (now cells) (cursor .mark) ⌝ }
+    ensures { λ r. ⌜ r ≡ (isLit (used (now (cells .entry)) (cursor .mark)) (t .0) && isLit (used (now (cells .entry)) (cursor .mark)) (u .0)) ⌝ }
+{
+    if is_literal(cells, cursor.mark, t.0 as usize) {
+        return is_literal(cells, cursor.mark, u.0 as usize);
+    }
+    false
+}
+
+// The closure of `eq`. A term that is compared with true or false here is of type Bool, since the two are of one type.
+fn eq_simplify(cells: &mut [u64], cursor: Cursor, t: TermPos, u: TermPos) -> TermStep
+    requires { ⌜ Ready (λ a. Alike a (t .0) (u .0)) (now cells) (cursor .mark) ⌝ }
+    ensures { λ r. ⌜ Did (λ a. eqSimplify a (t .0) (u .0)) (now (cells .entry)) (cursor .mark) (termReply r) (now (cells .exit)) ⌝ }
+{
+    if t.0 == u.0 {
+        return TermStep::At(cursor, TRUE);
+    }
+    if both_literal(cells, cursor, t, u) {
+        return TermStep::At(cursor, FALSE);
+    }
+    if t.0 == TRUE.0 {
+        return TermStep::At(cursor, u);
+    }
+    if u.0 == TRUE.0 {
+        return TermStep::At(cursor, t);
+    }
+    if t.0 == FALSE.0 {
+        return not(cells, cursor, u);
+    }
+    if u.0 == FALSE.0 {
+        return not(cells, cursor, t);
+    }
+    app2(cells, cursor, 24, BOOL, t, u)
+}
+
+pub fn eq(cells: &mut [u64], cursor: Cursor, t: TermPos, u: TermPos) -> TermStep
+    requires { ⌜ Ready (λ a. Alike a (t .0) (u .0)) (now cells) (cursor .mark) ⌝ }
+    ensures { λ r. ⌜ Did (λ a. eqT a (t .0) (u .0)) (now (cells .entry)) (cursor .mark) (termReply r) (now (cells .exit)) ⌝ }
+{
+    let k = kind_of(cells, cursor.mark, t.0);
+    let l = kind_of(cells, cursor.mark, u.0);
+    if all2(k == 19, l == 19) {
+        let x = TermPos(arg_of(cells, cursor.mark, t.0, 0));
+        let y = TermPos(arg_of(cells, cursor.mark, u.0, 0));
+        return eq_simplify(cells, cursor, x, y);
+    }
+    if any2(all2(k == 19, l == 18), all2(k == 18, l == 19)) {
+        return TermStep::At(cursor, FALSE);
+    }
+    eq_simplify(cells, cursor, t, u)
+}
+
+// The closure of `ite`.
+fn ite_simplify(cells: &mut [u64], cursor: Cursor, g: TermPos, t: TermPos, u: TermPos) -> TermStep
+    requires { ⌜ Ready (λ a. Typed a tbool (g .0) × Alike a (t .0) (u .0)) (now cells) (cursor .mark) ⌝ }
+    ensures { λ r. ⌜ Did (λ a. iteSimplify a (g .0) (t .0) (u .0)) (now (cells .entry)) (cursor .mark) (termReply r) (now (cells .exit)) ⌝ }
+{
+    if any2(g.0 == TRUE.0, t.0 == u.0) {
+        return TermStep::At(cursor, t);
+    }
+    if g.0 == FALSE.0 {
+        return TermStep::At(cursor, u);
+    }
+    if all2(t.0 == TRUE.0, u.0 == FALSE.0) {
+        return TermStep::At(cursor, g);
+    }
+    if all2(t.0 == FALSE.0, u.0 == TRUE.0) {
+        return not(cells, cursor, g);
+    }
+    if u.0 == FALSE.0 {
+        return and(cells, cursor, g, t);
+    }
+    if t.0 == TRUE.0 {
+        return or(cells, cursor, g, u);
+    }
+    let ty = type_of(cells, cursor.mark, t);
+    let members = [g.0, t.0, u.0];
+    cursor.term_node(cells, 125, ty, 0, &members)
+}
+
+// `ite` of two Somes: one layer goes round the whole.
+fn ite_of_somes(cells: &mut [u64], cursor: Cursor, g: TermPos, x: TermPos, y: TermPos) -> TermStep
+    requires { ⌜ Ready (λ a. Typed a tbool (g .0) × Alike a (x .0) (y .0)) (now cells) (cursor .mark) ⌝ }
+    ensures { λ r. ⌜ Did (λ a. iteOfSomes a (g .0) (x .0) (y .0)) (now (cells .entry)) (cursor .mark) (termReply r) (now (cells .exit)) ⌝ }
+{
+    match ite_simplify(cells, cursor, g, x, y) {
+        TermStep::At(next, s) => some_of(cells, next, s),
+        TermStep::Full => TermStep::Full,
+    }
+}
+
+pub fn ite(cells: &mut [u64], cursor: Cursor, g: TermPos, t: TermPos, u: TermPos) -> TermStep
+    requires { ⌜ Ready (λ a. Typed a tbool (g .0) × Alike a (t .0) (u .0)) (now cells) (cursor .mark) ⌝ }
+    ensures { λ r. ⌜ Did (λ a. iteT a (g .0) (t .0) (u .0)) (now (cells .entry)) (cursor .mark) (termReply r) (now (cells .exit)) ⌝ }
+{
+    let k = kind_of(cells, cursor.mark, t.0);
+    let l = kind_of(cells, cursor.mark, u.0);
+    if all2(k == 19, l == 19) {
+        let x = TermPos(arg_of(cells, cursor.mark, t.0, 0));
+        let y = TermPos(arg_of(cells, cursor.mark, u.0, 0));
+        return ite_of_somes(cells, cursor, g, x, y);
+    }
+    ite_simplify(cells, cursor, g, t, u)
+}
+
+// `app` of an uninterpreted function.
+pub fn uninterpreted(
+    cells: &mut [u64],
+    cursor: Cursor,
+    id: u64,
+    ty: TypePos,
+    t: TermPos,
+) -> TermStep
+    requires { ⌜ IsArena (now cells) (cursor .mark) ⌝ }
+    ensures { λ r. ⌜ Did (λ a. uninterpretedOf a id (ty .0) (t .0)) (now (cells .entry)) (cursor .mark) (termReply r) (now (cells .exit)) ⌝ }
+{
+    let members = [t.0];
+    cursor.term_node(cells, 126, ty, id, &members)
+}
+
+// ---------- SMTLib theory of finite bitvectors (`BV`) ----------
+
+// The width of a bitvector term.
+fn width_of(cells: &[u64], cursor: Cursor, t: TermPos) -> Width
+    requires { ⌜ Ready (λ a. OfKind a 2 (t .0)) (now cells) (cursor .mark) ⌝ }
+    ensures { λ r. ⌜ r .0 ≡ widthAt (used (now (cells .entry)) (cursor .mark)) (t .0) ⌝ }
+{
+    let ty = type_of(cells, cursor.mark, t);
+    Width(par_of(cells, cursor.mark, ty.0))
+}
+
+pub fn bvneg(cells: &mut [u64], cursor: Cursor, t: TermPos) -> TermStep
+    requires { ⌜ Ready (λ a. OfKind a 2 (t .0)) (now cells) (cursor .mark) ⌝ }
+    ensures { λ r. ⌜ Did (λ a. bvnegT a (t .0)) (now (cells .entry)) (cursor .mark) (termReply r) (now (cells .exit)) ⌝ }
+{
+    let kind = kind_of(cells, cursor.mark, t.0);
+    let ty = type_of(cells, cursor.mark, t);
+    if kind == 17 {
+        let width = width_of(cells, cursor, t);
+        let v = bitvec::neg(width, par_of(cells, cursor.mark, t.0));
+        return bitvec_lit(cells, cursor, ty, v);
+    }
+    if kind == 130 {
+        return TermStep::At(cursor, TermPos(arg_of(cells, cursor.mark, t.0, 0)));
+    }
+    app1(cells, cursor, 30, ty, t)
+}
+
+// Whether both are bitvector literals.
+fn both_bv(cells: &[u64], cursor: Cursor, t: TermPos, u: TermPos) -> bool
+    requires { ⌜ Ready (λ a. isTerm a (t .0) ≡ true × isTerm a (u .0) ≡ true) (now cells) (cursor .mark) ⌝ }
+    ensures { λ r. ⌜ r ≡ bothBv (used (now (cells .entry)) (cursor .mark)) (t .0) (u .0) ⌝ }
+{
+    all2(
+        kind_of(cells, cursor.mark, t.0) == 17,
+        kind_of(cells, cursor.mark, u.0) == 17,
+    )
+}
+
+// Operations 31 to 40: the number stands for the Rust's closure.
+pub fn bvapp(cells: &mut [u64], cursor: Cursor, op: u64, t: TermPos, u: TermPos) -> TermStep
+    requires { ⌜ Ready (λ a. OfKind a 2 (t .0) × Alike a (t .0) (u .0)) (now cells) (cursor .mark) ⌝ }
+    requires { ⌜ op ≤ 99 ⌝ }
+    ensures { λ r. ⌜ Did (λ a. bvappT op a (t .0) (u .0)) (now (cells .entry)) (cursor .mark) (termReply r) (now (cells .exit)) ⌝ }
+{
+    let ty = type_of(cells, cursor.mark, t);
+    if both_bv(cells, cursor, t, u) {
+        let width = width_of(cells, cursor, t);
+        let lhs = par_of(cells, cursor.mark, t.0);
+        let rhs = par_of(cells, cursor.mark, u.0);
+        return bitvec_lit(cells, cursor, ty, bitvec::bvapp(op, width, lhs, rhs));
+    }
+    app2(cells, cursor, op, ty, t, u)
+}
+
+// Operations 41 to 44.
+pub fn bvcmp(cells: &mut [u64], cursor: Cursor, op: u64, t: TermPos, u: TermPos) -> TermStep
+    requires { ⌜ Ready (λ a. OfKind a 2 (t .0) × Alike a (t .0) (u .0)) (now cells) (cursor .mark) ⌝ }
+    requires { ⌜ op ≤ 99 ⌝ }
+    ensures { λ r. ⌜ Did (λ a. bvcmpT op a (t .0) (u .0)) (now (cells .entry)) (cursor .mark) (termReply r) (now (cells .exit)) ⌝ }
+{
+    if both_bv(cells, cursor, t, u) {
+        let width = width_of(cells, cursor, t);
+        let lhs = par_of(cells, cursor.mark, t.0);
+        let rhs = par_of(cells, cursor.mark, u.0);
+        return TermStep::At(cursor, bool_at(bitvec::bvcmp(op, width, lhs, rhs)));
+    }
+    app2(cells, cursor, op, BOOL, t, u)
+}
+
+pub fn bvnego(cells: &mut [u64], cursor: Cursor, t: TermPos) -> TermStep
+    requires { ⌜ Ready (λ a. OfKind a 2 (t .0)) (now cells) (cursor .mark) ⌝ }
+    ensures { λ r. ⌜ Did (λ a. bvnegoT a (t .0)) (now (cells .entry)) (cursor .mark) (termReply r) (now (cells .exit)) ⌝ }
+{
+    if kind_of(cells, cursor.mark, t.0) == 17 {
+        let width = width_of(cells, cursor, t);
+        let v = par_of(cells, cursor.mark, t.0);
+        return TermStep::At(cursor, bool_at(bitvec::nego(width, v)));
+    }
+    app1(cells, cursor, 45, BOOL, t)
+}
+
+// Operations 46 to 48.
+pub fn bvso(cells: &mut [u64], cursor: Cursor, op: u64, t: TermPos, u: TermPos) -> TermStep
+    requires { ⌜ Ready (λ a. OfKind a 2 (t .0) × Alike a (t .0) (u .0)) (now cells) (cursor .mark) ⌝ }
+    requires { ⌜ op ≤ 99 ⌝ }
+    ensures { λ r. ⌜ Did (λ a. bvsoT op a (t .0) (u .0)) (now (cells .entry)) (cursor .mark) (termReply r) (now (cells .exit)) ⌝ }
+{
+    if both_bv(cells, cursor, t, u) {
+        let width = width_of(cells, cursor, t);
+        let lhs = par_of(cells, cursor.mark, t.0);
+        let rhs = par_of(cells, cursor.mark, u.0);
+        return TermStep::At(cursor, bool_at(bitvec::bvso(op, width, lhs, rhs)));
+    }
+    app2(cells, cursor, op, BOOL, t, u)
+}
+
+// ---------- Core ADT operators with a trusted mapping to SMT ----------
+
+// The element type of an option or a set.
+fn elem_of(cells: &[u64], cursor: Cursor, t: TermPos) -> TypePos
+    requires { ⌜ Ready (λ a. isTerm a (t .0) ≡ true) (now cells) (cursor .mark) ⌝ }
+    ensures { λ r. ⌜ r .0 ≡ elemAt (used (now (cells .entry)) (cursor .mark)) (t .0) ⌝ }
+{
+    let ty = type_of(cells, cursor.mark, t);
+    TypePos(arg_of(cells, cursor.mark, ty.0, 0))
+}
+
+pub fn option_get(cells: &mut [u64], cursor: Cursor, t: TermPos) -> TermStep
+    requires { ⌜ Ready (λ a. isTerm a (t .0) ≡ true) (now cells) (cursor .mark) ⌝ }
+    ensures { λ r. ⌜ Did (λ a. optionGet a (t .0)) (now (cells .entry)) (cursor .mark) (termReply r) (now (cells .exit)) ⌝ }
+{
+    if kind_of(cells, cursor.mark, t.0) == 19 {
+        return TermStep::At(cursor, TermPos(arg_of(cells, cursor.mark, t.0, 0)));
+    }
+    let ty = elem_of(cells, cursor, t);
+    app1(cells, cursor, 55, ty, t)
+}
+
+// ---------- Helper functions for constructing compound terms ----------
+
+// The test that stands where nothing folds.
+fn eq_none(cells: &mut [u64], cursor: Cursor, t: TermPos) -> TermStep
+    requires { ⌜ Ready (λ a. OfKind a 3 (t .0)) (now cells) (cursor .mark) ⌝ }
+    ensures { λ r. ⌜ Did (λ a. eqNone a (t .0)) (now (cells .entry)) (cursor .mark) (termReply r) (now (cells .exit)) ⌝ }
+{
+    let ty = elem_of(cells, cursor, t);
+    match none_of(cells, cursor, ty) {
+        TermStep::At(next, n) => eq(cells, next, t, n),
+        TermStep::Full => TermStep::Full,
+    }
+}
+
+// `is_none` of an ite with the guard g and the arms x and y.
+fn is_none_ite(
+    cells: &mut [u64],
+    cursor: Cursor,
+    t: TermPos,
+    g: TermPos,
+    x: TermPos,
+    y: TermPos,
+) -> TermStep
+    requires { ⌜ Ready (λ a. OfKind a 3 (t .0) × Typed a tbool (g .0) × isTerm a (x .0) ≡ true × isTerm a (y .0) ≡ true) (now cells) (cursor .mark) ⌝ }
+    ensures { λ r. ⌜ Did (λ a. isNoneIte a (t .0) (g .0) (x .0) (y .0)) (now (cells .entry)) (cursor .mark) (termReply r) (now (cells .exit)) ⌝ }
+{
+    let k = kind_of(cells, cursor.mark, x.0);
+    let l = kind_of(cells, cursor.mark, y.0);
+    if all2(k == 19, l == 19) {
+        return TermStep::At(cursor, FALSE);
+    }
+    if all2(k == 19, l == 18) {
+        return not(cells, cursor, g);
+    }
+    if all2(k == 18, l == 19) {
+        return TermStep::At(cursor, g);
+    }
+    eq_none(cells, cursor, t)
+}
+
+pub fn is_none(cells: &mut [u64], cursor: Cursor, t: TermPos) -> TermStep
+    requires { ⌜ Ready (λ a. OfKind a 3 (t .0)) (now cells) (cursor .mark) ⌝ }
+    ensures { λ r. ⌜ Did (λ a. isNone a (t .0)) (now (cells .entry)) (cursor .mark) (termReply r) (now (cells .exit)) ⌝ }
+{
+    let k = kind_of(cells, cursor.mark, t.0);
+    if k == 18 {
+        return TermStep::At(cursor, TRUE);
+    }
+    if k == 19 {
+        return TermStep::At(cursor, FALSE);
+    }
+    if k == 125 {
+        let g = TermPos(arg_of(cells, cursor.mark, t.0, 0));
+        let x = TermPos(arg_of(cells, cursor.mark, t.0, 1));
+        let y = TermPos(arg_of(cells, cursor.mark, t.0, 2));
+        return is_none_ite(cells, cursor, t, g, x, y);
+    }
+    eq_none(cells, cursor, t)
+}
+
+pub fn is_some(cells: &mut [u64], cursor: Cursor, t: TermPos) -> TermStep
+    requires { ⌜ Ready (λ a. OfKind a 3 (t .0)) (now cells) (cursor .mark) ⌝ }
+    ensures { λ r. ⌜ Did (λ a. isSome a (t .0)) (now (cells .entry)) (cursor .mark) (termReply r) (now (cells .exit)) ⌝ }
+{
+    match is_none(cells, cursor, t) {
+        TermStep::At(next, n) => not(cells, next, n),
+        TermStep::Full => TermStep::Full,
+    }
+}
+
+// `if_false` with its None made.
+fn or_some(cells: &mut [u64], cursor: Cursor, g: TermPos, n: TermPos, t: TermPos) -> TermStep
+    requires { ⌜ Ready (λ a. Typed a tbool (g .0) × isTerm a (t .0) ≡ true × Typed a (topt (tyAt a (t .0))) (n .0)) (now cells) (cursor .mark) ⌝ }
+    ensures { λ r. ⌜ Did (λ a. orSome a (g .0) (n .0) (t .0)) (now (cells .entry)) (cursor .mark) (termReply r) (now (cells .exit)) ⌝ }
+{
+    match some_of(cells, cursor, t) {
+        TermStep::At(next, s) => ite(cells, next, g, n, s),
+        TermStep::Full => TermStep::Full,
+    }
+}
+
+pub fn if_false(cells: &mut [u64], cursor: Cursor, g: TermPos, t: TermPos) -> TermStep
+    requires { ⌜ Ready (λ a. Typed a tbool (g .0) × isTerm a (t .0) ≡ true) (now cells) (cursor .mark) ⌝ }
+    ensures { λ r. ⌜ Did (λ a. ifFalse a (g .0) (t .0)) (now (cells .entry)) (cursor .mark) (termReply r) (now (cells .exit)) ⌝ }
+{
+    let ty = type_of(cells, cursor.mark, t);
+    match none_of(cells, cursor, ty) {
+        TermStep::At(next, n) => or_some(cells, next, g, n, t),
+        TermStep::Full => TermStep::Full,
+    }
+}
+
+// `if_true` with its Some made.
+fn or_none(cells: &mut [u64], cursor: Cursor, g: TermPos, s: TermPos, t: TermPos) -> TermStep
+    requires { ⌜ Ready (λ a. Typed a tbool (g .0) × isTerm a (t .0) ≡ true × Typed a (topt (tyAt a (t .0))) (s .0)) (now cells) (cursor .mark) ⌝ }
+    ensures { λ r. ⌜ Did (λ a. orNone a (g .0) (s .0) (t .0)) (now (cells .entry)) (cursor .mark) (termReply r) (now (cells .exit)) ⌝ }
+{
+    let ty = type_of(cells, cursor.mark, t);
+    match none_of(cells, cursor, ty) {
+        TermStep::At(next, n) => ite(cells, next, g, s, n),
+        TermStep::Full => TermStep::Full,
+    }
+}
+
+pub fn if_true(cells: &mut [u64], cursor: Cursor, g: TermPos, t: TermPos) -> TermStep
+    requires { ⌜ Ready (λ a. Typed a tbool (g .0) × isTerm a (t .0) ≡ true) (now cells) (cursor .mark) ⌝ }
+    ensures { λ r. ⌜ Did (λ a. ifTrue a (g .0) (t .0)) (now (cells .entry)) (cursor .mark) (termReply r) (now (cells .exit)) ⌝ }
+{
+    match some_of(cells, cursor, t) {
+        TermStep::At(next, s) => or_none(cells, next, g, s, t),
+        TermStep::Full => TermStep::Full,
+    }
+}
