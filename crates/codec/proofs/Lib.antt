@@ -1,0 +1,5 @@
+-- Laws of the encoding and of lines, in the order in which they lean on each other.
+pub mod Choices
+pub mod Digits
+pub mod Groups
+pub mod Steps

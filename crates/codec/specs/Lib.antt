@@ -1,0 +1,3 @@
+-- The bytes of a script and of its answers.
+pub mod Digits
+pub mod Numbers
