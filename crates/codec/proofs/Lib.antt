@@ -3,3 +3,5 @@ pub mod Choices
 pub mod Digits
 pub mod Groups
 pub mod Steps
+pub mod Filling
+pub mod Stages

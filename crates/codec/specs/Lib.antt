@@ -1,3 +1,4 @@
 -- The bytes of a script and of its answers.
 pub mod Digits
 pub mod Numbers
+pub mod Instructions

@@ -1,10 +1,12 @@
 // The bytes of a script and of its answers: numbers in groups of seven bits, instructions, and lines of decimal numbers.
+use instruction::Instruction;
 ghost use mathlib.Core.Path.{_≡_};
 ghost use mathlib.Core.Bool.{_&&_};
 ghost use Prim.Native.Nat.{ℕ, _+_, _≤_};
 ghost use lib.Dec.{eqb, ltb};
 ghost use lib.ListN.{length};
 ghost use Rattle.codec.specs.Numbers.{groups, numberAt};
+ghost use Rattle.codec.specs.Instructions.{broken, numbersAt, operandsOf, bad, instructionAt, decodedOf};
 
 // What stands at a place: a number and the place behind it, or none.
 pub enum Number {
@@ -55,4 +57,96 @@ pub fn read_number(bytes: &[u8], at: usize) -> Number
         shift += 7;
     }
     Number::Bad
+}
+
+// An instruction and the place behind it. Where none was read `good` is false, the place is the one that was asked for,
+// and every number of the instruction is 0.
+pub struct Decoded {
+    pub good: bool,
+    pub next: usize,
+    pub instruction: Instruction,
+}
+
+// Operands, and the place behind them.
+struct Operands {
+    good: bool,
+    next: usize,
+    values: [u64; 257],
+}
+
+fn no_operands(at: usize) -> Operands
+    ensures { λ r. ⌜ r ≡ operandsOf at broken ⌝ }
+{
+    Operands {
+        good: false,
+        next: at,
+        values: [0u64; 257],
+    }
+}
+
+// As many numbers as the count says.
+fn read_operands(bytes: &[u8], at: usize, count: u64) -> Operands
+    requires { ⌜ count ≤ 257 ⌝ }
+    ensures { λ r. ⌜ r ≡ operandsOf at (numbersAt count (now (bytes .entry)) at) ⌝ }
+{
+    let total = count as usize;
+    let mut values = [0u64; 257];
+    let mut next = at;
+    let mut read: usize = 0;
+    while read < total {
+        let Number::Read(value, behind) = read_number(bytes, next) else {
+            return no_operands(at);
+        };
+        values[read] = value;
+        next = behind;
+        read += 1;
+    }
+    Operands {
+        good: true,
+        next,
+        values,
+    }
+}
+
+fn undecoded(at: usize) -> Decoded
+    ensures { λ r. ⌜ r ≡ decodedOf at bad ⌝ }
+{
+    Decoded {
+        good: false,
+        next: at,
+        instruction: instruction::without_operands(0, 0),
+    }
+}
+
+// The instruction at a place: operation, parameter, count, and as many operands, 257 at most.
+pub fn read_instruction(bytes: &[u8], at: usize) -> Decoded
+    ensures { λ r. ⌜ r ≡ decodedOf at (instructionAt (now (bytes .entry)) at) ⌝ }
+{
+    let Number::Read(operation, a) = read_number(bytes, at) else {
+        return undecoded(at);
+    };
+    let Number::Read(parameter, b) = read_number(bytes, a) else {
+        return undecoded(at);
+    };
+    let Number::Read(count, c) = read_number(bytes, b) else {
+        return undecoded(at);
+    };
+    if count > 257 {
+        return undecoded(at);
+    }
+    let listed = read_operands(bytes, c, count);
+    if !listed.good {
+        return undecoded(at);
+    }
+    let operands = listed.values;
+    Decoded {
+        good: true,
+        next: listed.next,
+        instruction: Instruction {
+            operation,
+            parameter,
+            count,
+            operands,
+        },
+    }
 }
