@@ -5,3 +5,5 @@ pub mod Groups
 pub mod Steps
 pub mod Filling
 pub mod Stages
+pub mod Encoded
+pub mod Listed

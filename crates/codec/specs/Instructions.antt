@@ -1,11 +1,12 @@
 -- An instruction in bytes: operation, parameter, count, then that many operands, 257 at most, each a number.
-use Prim.Native.Nat.{ℕ, zero, suc, _-_}
+use Prim.Native.Nat.{ℕ, zero, suc, _+_, _-_, _^_, _≤_, _<_}
+use mathlib.Core.Path.{_≡_}
 use mathlib.Core.Bool.{true, false, cond}
 use mathlib.Core.List.{List, [], _∷_, _++_}
 use lib.Dec.{leb}
-use lib.ListN.{length, replicate}
+use lib.ListN.{length, getD, drop, replicate}
 use Rattle.instruction.specs.Instruction.{Instr, held, without}
-use Rattle.codec.specs.Numbers.{numberAt}
+use Rattle.codec.specs.Numbers.{groups, numberAt}
 use Rattle.codec.specs.declared.Number.{Number}
 use Rattle.codec.specs.declared.Number.the-variants.{Read, Bad}
 use Rattle.codec.specs.declared.Operands.{Operands}
@@ -63,3 +64,24 @@ instructionAt bytes at =
 abbrev pub decodedOf : ℕ → Reading → Decoded
 decodedOf at (whole i next) = record { good = true; next = next; instruction = held i }
 decodedOf at bad = record { good = false; next = at; instruction = held (without 0 0) }
+
+-- the encoding of numbers, one behind the other
+unfoldable pub allGroups : List ℕ → List ℕ
+allGroups [] = []
+allGroups (n ∷ ns) = groups n ++ allGroups ns
+
+-- the numbers of an instruction
+abbrev pub numbers : Instr → List ℕ
+numbers i = i .op ∷ i .par ∷ i .count ∷ i .operands
+
+-- decoding said by the encoding: the groups of numbers below 2 ^ 64 stand at a place, and `next` is the place behind them
+pub record BeginAll (bytes : List ℕ) (at : ℕ) (ns : List ℕ) (next : ℕ) : Type 0 where
+  pub small : (k : ℕ) → getD ns k 0 < 2 ^ 64
+  pub stands : drop at bytes ≡ allGroups ns ++ drop next bytes
+  pub behind : next ≡ at + length (allGroups ns)
+
+-- and so for an instruction
+pub record Encodes (bytes : List ℕ) (at : ℕ) (i : Instr) (next : ℕ) : Type 0 where
+  pub begin : BeginAll bytes at (numbers i) next
+  pub counted : length (i .operands) ≡ i .count
+  pub most : i .count ≤ 257

@@ -1,7 +1,8 @@
 -- A number in groups of seven bits, low group first, the top bit set on all but the last, in the fewest groups, below 2 ^ 64.
-use Prim.Native.Nat.{ℕ, _+_, _*_, _%_, _^_}
+use Prim.Native.Nat.{ℕ, _+_, _*_, _%_, _^_, _<_}
+use mathlib.Core.Path.{_≡_}
 use mathlib.Core.Bool.{Bool, true, false, cond, _&&_}
-use mathlib.Core.List.{List, [], _∷_}
+use mathlib.Core.List.{List, [], _∷_, _++_}
 use lib.Dec.{eqb, ltb}
 use lib.ListN.{length, drop}
 use Rattle.codec.specs.Digits.{digits}
@@ -45,3 +46,9 @@ numberOf at gs =
 -- the number at a place of the bytes
 unfoldable pub numberAt : List ℕ → ℕ → Number
 numberAt bytes at = numberOf at (run (drop at bytes))
+
+-- decoding said by the encoding: the groups of a number below 2 ^ 64 stand at a place, and `next` is the place behind them
+pub record Begins (bytes : List ℕ) (at n next : ℕ) : Type 0 where
+  pub small : n < 2 ^ 64
+  pub stands : drop at bytes ≡ groups n ++ drop next bytes
+  pub behind : next ≡ at + length (groups n)
