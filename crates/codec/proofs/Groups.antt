@@ -76,3 +76,6 @@ run-front (b ∷ bs) = ap (_∷_ b) (pick (ltb b 128) (run bs) (run-front bs))
     pick : (t : Bool) (r : List ℕ) → bs ≡ r ++ drop (length r) bs → bs ≡ cond t [] r ++ drop (length (cond t [] r)) bs
     pick true r e = refl
     pick false r e = e
+
+pub groups-some : (n : ℕ) → 0 < length (groups n)
+groups-some n = rw (length-groups n) (digits-some 128 n (omega arith))

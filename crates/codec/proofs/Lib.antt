@@ -7,3 +7,6 @@ pub mod Filling
 pub mod Stages
 pub mod Encoded
 pub mod Listed
+pub mod Putting
+pub mod Turns
+pub mod Answers

@@ -2,3 +2,5 @@
 pub mod Digits
 pub mod Numbers
 pub mod Instructions
+pub mod Writing
+pub mod Lines
