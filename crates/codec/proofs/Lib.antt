@@ -10,3 +10,4 @@ pub mod Listed
 pub mod Putting
 pub mod Turns
 pub mod Answers
+pub mod Examples
