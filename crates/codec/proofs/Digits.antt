@@ -1,8 +1,7 @@
 -- The digits of a number, by its quotient. Assumes nothing.
-use mathlib.Core.Path.{_≡_, refl, sym, ap, _∙_, subst}
+use mathlib.Core.Path.{_≡_, ap, _∙_, subst}
 use mathlib.Core.Logic.{⊎-elim}
-use mathlib.Core.Bool.{Bool, true, false, cond}
-use mathlib.Core.List.{List, [], _∷_}
+use mathlib.Core.List.{[], _∷_}
 use Prim.Native.Nat.{ℕ, zero, suc, _*_, _/_, _%_, _^_, _≤_, _<_, suc-le-suc}
 use native.Mathlib.Nat.{div-lt-self, div-lt-iff-lt-mul, pow-suc, pow-zero, one-mul}
 use native.Mathlib.Omega.{arith}

@@ -1,10 +1,9 @@
 -- Document 01's script and lines, and numbers at the edges, computed from the definitions: one table, one statement.
 use mathlib.Core.Path.{_≡_, refl}
-use mathlib.Core.Bool.{Bool, true, false, not, _&&_}
+use mathlib.Core.Bool.{Bool, true, false, _&&_}
 use mathlib.Core.List.{List, [], _∷_, _++_}
 use Prim.Native.Nat.{ℕ, _-_, _^_}
 use lib.Dec.{eqb}
-use Rattle.instruction.specs.Instruction.{Instr}
 use Rattle.codec.specs.declared.Number.{Number}
 use Rattle.codec.specs.declared.Number.the-variants.{Read, Bad}
 use Rattle.codec.specs.Digits.{digitsIn, digits}

@@ -1,16 +1,15 @@
 -- The encoding of a number by groups, and what it stands for. Assumes nothing.
-use mathlib.Core.Path.{_≡_, refl, sym, ap, ap₂, _∙_, subst}
-use mathlib.Core.Logic.{⊎-elim}
-use mathlib.Core.Bool.{Bool, true, false, cond, _&&_}
+use mathlib.Core.Path.{_≡_, refl, ap, ap₂}
+use mathlib.Core.Bool.{Bool, true, false, cond}
 use mathlib.Core.List.{List, [], _∷_, _++_}
-use Prim.Native.Nat.{ℕ, zero, suc, _+_, _*_, _/_, _%_, _^_, _≤_, _<_}
+use Prim.Native.Nat.{ℕ, suc, _+_, _/_, _%_, _^_, _≤_, _<_}
 use native.Mathlib.Omega.{arith}
 use borrow.Author.Tests.{lt-ltb, le-ltb, eqb-true, eq-eqb}
 use lib.Dec.{eqb, ltb}
-use lib.ListN.{length, take, drop}
+use lib.ListN.{length, drop}
 use Rattle.codec.specs.Digits.{digits}
 use Rattle.codec.specs.Numbers.{marked, groups, value, run, same}
-use Rattle.codec.proofs.Choices.{lt-or-le, and-true}
+use Rattle.codec.proofs.Choices.{and-true}
 use Rattle.codec.proofs.Digits.{digits-small, digits-more, digits-some, digits-most, by-quotient}
 
 marked-more : (g : ℕ) (gs : List ℕ) → 0 < length gs → marked (g ∷ gs) ≡ (128 + g) ∷ marked gs
@@ -79,3 +78,7 @@ run-front (b ∷ bs) = ap (_∷_ b) (pick (ltb b 128) (run bs) (run-front bs))
 
 pub groups-some : (n : ℕ) → 0 < length (groups n)
 groups-some n = rw (length-groups n) (digits-some 128 n (omega arith))
+
+-- at most ten groups
+pub groups-most : (n : ℕ) → n < 2 ^ 64 → length (groups n) ≤ 10
+groups-most n h = rw (length-groups n) (digits-most 128 (omega arith) 9 n (omega arith))

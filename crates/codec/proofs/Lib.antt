@@ -7,6 +7,7 @@ pub mod Filling
 pub mod Stages
 pub mod Encoded
 pub mod Listed
+pub mod Handed
 pub mod Putting
 pub mod Turns
 pub mod Answers

@@ -97,24 +97,34 @@ within true e = (refl, e)
 within false e = (cc, cc)
 
 module _ (bytes : List ℕ) (at : ℕ) where
+  -- the four stages, last to first
+  from-operands : (i : Instr) (next op a par b count c : ℕ) → numberAt bytes at ≡ Read op a → numberAt bytes a ≡ Read par b → numberAt bytes b ≡ Read count c
+      → count ≤ 257 → operands op par count (numbersAt count bytes c) ≡ whole i next → Encodes bytes at i next
+  from-operands i next op a par b count c x y z m e =
+      let o = operands-whole op par count (numbersAt count bytes c) e in
+      let l = listed-begin bytes count c (o .0) next (o .1) in
+      subst (λ (j : Instr). Encodes bytes at j next) (o .2)
+      (record {
+        begin =
+            begin-more bytes (number-read bytes at op a .0 x)
+            (begin-more bytes (number-read bytes a par b .0 y) (begin-more bytes (number-read bytes b count c .0 z) (l .1)));
+        counted = l .0;
+        most = m;
+      })
+
+  from-count : (i : Instr) (next op a par b : ℕ) → numberAt bytes at ≡ Read op a → numberAt bytes a ≡ Read par b
+      → after (numberAt bytes b) (λ count c. cond (leb count 257) (operands op par count (numbersAt count bytes c)) bad) ≡ whole i next → Encodes bytes at i next
+  from-count i next op a par b x y e =
+      let z = after-whole (numberAt bytes b) (λ count c. cond (leb count 257) (operands op par count (numbersAt count bytes c)) bad) e in
+      let w = within (leb (z .0) 257) (z .3) in
+      from-operands i next op a par b (z .0) (z .1) x y (z .2) (leb-true (z .0) 257 (w .0)) (w .1)
+
   read-encodes : (i : Instr) (next : ℕ) → instructionAt bytes at ≡ whole i next → Encodes bytes at i next
   unfolding instructionAt
   read-encodes i next e =
       let x = after-whole (numberAt bytes at) _ e in
       let y = after-whole (numberAt bytes (x .1)) _ (x .3) in
-      let z = after-whole (numberAt bytes (y .1)) _ (y .3) in
-      let w = within (leb (z .0) 257) (z .3) in
-      let o = operands-whole (x .0) (y .0) (z .0) (numbersAt (z .0) bytes (z .1)) (w .1) in
-      let l = listed-begin bytes (z .0) (z .1) (o .0) next (o .1) in
-      subst (λ (j : Instr). Encodes bytes at j next) (o .2)
-      (record {
-        begin =
-            begin-more bytes (number-read bytes at (x .0) (x .1) .0 (x .2))
-            (begin-more bytes (number-read bytes (x .1) (y .0) (y .1) .0 (y .2))
-            (begin-more bytes (number-read bytes (y .1) (z .0) (z .1) .0 (z .2)) (l .1)));
-        counted = l .0;
-        most = leb-true (z .0) 257 (w .0);
-      })
+      from-count i next (x .0) (x .1) (y .0) (y .1) (x .2) (y .2) (y .3)
 
   encodes-read : (i : Instr) (next : ℕ) → Encodes bytes at i next → instructionAt bytes at ≡ whole i next
   unfolding instructionAt after operands

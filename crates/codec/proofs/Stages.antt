@@ -1,16 +1,13 @@
 -- An instruction is read number by number: what each stage that the code reaches says of the whole. Assumes nothing.
 use mathlib.Core.Path.{_≡_, refl, sym, ap}
-use mathlib.Core.Bool.{Bool, true, false, cond}
+use mathlib.Core.Bool.{true, false}
 use mathlib.Core.List.{List}
 use Prim.Native.Nat.{ℕ, _≤_, _<_}
 use borrow.Author.Tests.{le-leb, lt-leb}
-use Rattle.instruction.specs.Instruction.{Instr}
-use Rattle.codec.specs.declared.Number.{Number}
 use Rattle.codec.specs.declared.Number.the-variants.{Read, Bad}
 use Rattle.codec.specs.declared.Operands.{Operands}
-use Rattle.codec.specs.declared.Decoded.{Decoded}
 use Rattle.codec.specs.Numbers.{numberAt}
-use Rattle.codec.specs.Instructions.{Listing, listed, broken, numbersAt, operandsOf, Reading, whole, bad, after, operands, instructionAt, decodedOf}
+use Rattle.codec.specs.Instructions.{Listing, listed, broken, numbersAt, operandsOf, bad, after, operands, instructionAt, decodedOf}
 
 module _ (bytes : List ℕ) (at : ℕ) where
   pub no-operation : Bad ≡ numberAt bytes at → instructionAt bytes at ≡ bad
