@@ -1,0 +1,2 @@
+-- An instruction of a script, as its reader sees it.
+pub mod Instruction
