@@ -14,10 +14,10 @@ use Rattle.arena.specs.Cells.{cells, parseOn, parse, used, nodeHere}
 use Rattle.arena.specs.Walks.{ruled, walked, litRule, freeRule}
 use Rattle.arena.specs.WellFormed.{fieldRun, placed, typeTest, makerTest, coreTest, bvTest, dataTest, kindTest, goodNode, isFresh, startsFresh, goodNodes, absent, distinct, wellFormed, filled, clear, formed}
 use Rattle.factory.specs.Makers.{noneOf, someOf, setOf, recordOf}
-use Rattle.factory.specs.Core.{notT, opposites, andT, orT, implies, eqSimplify, eqT, iteSimplify, iteT, uninterpreted}
+use Rattle.factory.specs.Core.{junction, iteOfSomes, notT, opposites, andT, orT, implies, eqSimplify, eqT, iteSimplify, iteT, uninterpreted}
 use Rattle.factory.specs.Bitvectors.{bvnegT, bvappT, bvcmpT, bvnegoT, bvsoT, zeroExtendT}
 use Rattle.factory.specs.SetSteps.{isNil, setMember, setSubset, setInter, setIsEmpty, setIntersects, optionGet, recordGet}
-use Rattle.factory.specs.Helpers.{eqNone, isNoneIte, isNone, isSome, ifFalse, ifTrue, guarded, ifSome, anyNoneOn, anyNone, ifAllSome}
+use Rattle.factory.specs.Helpers.{orSome, orNone, eqNone, isNoneIte, isNone, isSome, ifFalse, ifTrue, guarded, ifSome, anyNoneOn, anyNone, ifAllSome}
 use Rattle.compiler.specs.Compiler.{compiledNot, compiledNeg, compiledIsEmpty, getFields, compiledRecord, compiledHasAttr, compiledGetAttr}
 use Rattle.call.specs.Table.{table, rowOf}
 use Rattle.call.specs.Call.{Reply, ok, refused, Instr, instr, Done, countOk, tooMany, sortOk, sortsOk, operandsOk, firstOf, tests, fitted, withRow, call, callOn}
@@ -98,5 +98,5 @@ examples =
     ∷ []
 
 examples-hold : holds examples ≡ true
-unfolding holds runs sameReply examples nat2bv extract concat allOnes bvnot bvneg bvadd bvmul bvudiv bvurem bvshl bvlshr bvult top byTops bvsub bvsdiv bvsrem bvabs bvsmodOf bvsmod bvule byTop bvslt bvsle zeroExtend bv2int outside bvnego bvsaddo bvssubo bvsmulo bvappOf bvcmpOf bvsoOf every all any sameList evens odds field fieldD holdsField rising insert sorted putField fieldsOf mark over nodeAt positions keys fieldTypes same find putFound put cells parseOn parse used nodeHere ruled walked litRule freeRule fieldRun placed typeTest makerTest coreTest bvTest dataTest kindTest goodNode isFresh startsFresh goodNodes absent distinct wellFormed filled clear formed noneOf someOf setOf recordOf notT opposites andT orT implies eqSimplify eqT iteSimplify iteT uninterpreted bvnegT bvappT bvcmpT bvnegoT bvsoT zeroExtendT isNil setMember setSubset common setInter setIsEmpty setIntersects optionGet recordGet eqNone isNoneIte isNone isSome ifFalse ifTrue guarded ifSome anyNoneOn anyNone ifAllSome compiledNot compiledNeg compiledIsEmpty getFields compiledRecord compiledHasAttr compiledGetAttr table rowOf countOk tooMany sortOk sortsOk operandsOk firstOf tests fitted withRow call callOn
+unfolding junction iteOfSomes orSome orNone holds runs sameReply examples nat2bv extract concat allOnes bvnot bvneg bvadd bvmul bvudiv bvurem bvshl bvlshr bvult top byTops bvsub bvsdiv bvsrem bvabs bvsmodOf bvsmod bvule byTop bvslt bvsle zeroExtend bv2int outside bvnego bvsaddo bvssubo bvsmulo bvappOf bvcmpOf bvsoOf every all any sameList evens odds field fieldD holdsField rising insert sorted putField fieldsOf mark over nodeAt positions keys fieldTypes same find putFound put cells parseOn parse used nodeHere ruled walked litRule freeRule fieldRun placed typeTest makerTest coreTest bvTest dataTest kindTest goodNode isFresh startsFresh goodNodes absent distinct wellFormed filled clear formed noneOf someOf setOf recordOf notT opposites andT orT implies eqSimplify eqT iteSimplify iteT uninterpreted bvnegT bvappT bvcmpT bvnegoT bvsoT zeroExtendT isNil setMember setSubset common setInter setIsEmpty setIntersects optionGet recordGet eqNone isNoneIte isNone isSome ifFalse ifTrue guarded ifSome anyNoneOn anyNone ifAllSome compiledNot compiledNeg compiledIsEmpty getFields compiledRecord compiledHasAttr compiledGetAttr table rowOf countOk tooMany sortOk sortsOk operandsOk firstOf tests fitted withRow call callOn
 examples-hold = refl
