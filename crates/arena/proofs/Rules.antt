@@ -53,11 +53,3 @@ free-fail k e = rw e
 pub free-ask : (k : ℕ) → (k ≡ 4 → ⊥) → k ≤ 5 → freeRule k ≡ ask
 unfolding freeRule
 free-ask k h j = rw (ne-eqb k 4 h, le-leb k 5 j)
-
-pub free-past : (k : ℕ) → 5 < k → freeRule k ≡ fail
-unfolding freeRule
-free-past k h = rw (ne-eqb k 4 (λ z. omega arith), lt-leb k 5 h)
-
-pub lit-type : (k : ℕ) → k < 16 → litRule k ≡ fail
-unfolding litRule
-lit-type k h = rw (le-leb k 18 (omega arith), lt-leb 16 k h)

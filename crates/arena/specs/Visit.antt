@@ -1,34 +1,29 @@
--- The walk over members in code: the rule it follows, what the rule says as a number, and what the walk leaves.
+-- The two walks as one: what both ask of a node.
 use mathlib.Core.Path.{_≡_}
-use mathlib.Core.Bool.{Bool, true, false}
+use mathlib.Core.Bool.{Bool, cond}
 use mathlib.Core.List.{List}
 use Prim.Native.Nat.{ℕ, _≤_}
-use Rattle.arena.specs.Nodes.{kindAt}
+use lib.Dec.{leb}
+use Rattle.arena.specs.Nodes.{Nodes, kindAt}
 use Rattle.arena.specs.Cells.{used}
-use Rattle.arena.specs.Walks.{Verdict, pass, fail, ask, walked, litRule, freeRule}
+use Rattle.arena.specs.Walks.{isLit, setFree}
 use Rattle.arena.specs.WellFormed.{Below}
 use Rattle.arena.specs.Lent.{Sure}
 
--- of terms: is it a literal; of types: is it free of sets
-abbrev pub ruleOf : Bool → ℕ → Verdict
-ruleOf true k = litRule k
-ruleOf false k = freeRule k
-
-abbrev pub verdictNumber : Verdict → ℕ
-verdictNumber fail = 0
-verdictNumber pass = 1
-verdictNumber ask = 2
+-- a type free of sets, or a literal
+unfoldable pub clean : Nodes → ℕ → Bool
+clean a p = cond (leb (kindAt a p) 15) (setFree a p) (isLit a p)
 
 -- a node starts at p
-pub record Begins (c : List ℕ) (m p : ℕ) : Type 0 where
+pub record Stands (c : List ℕ) (m p : ℕ) : Type 0 where
   pub below : Below c m
   pub node : 1 ≤ kindAt (used c m) p
 
--- a node whose flag is 1 passes
-abbrev pub Flagged : Bool → List ℕ → ℕ → List ℕ → Type 0
-Flagged terms c m flags = Sure (used c m) (walked (ruleOf terms) (used c m)) flags
+-- flags of 1 are at nodes that are clean
+abbrev pub Known : List ℕ → ℕ → List ℕ → Type 0
+Known c m flags = Sure (used c m) (clean (used c m)) flags
 
 -- the walk's answer, and the flags that it leaves
-pub record Visited (terms : Bool) (c : List ℕ) (m p : ℕ) (r : Bool) (flags : List ℕ) : Type 0 where
-  pub answer : r ≡ walked (ruleOf terms) (used c m) p
-  pub sure : Flagged terms c m flags
+pub record Walked (c : List ℕ) (m p : ℕ) (r : Bool) (flags : List ℕ) : Type 0 where
+  pub answer : r ≡ clean (used c m) p
+  pub known : Known c m flags

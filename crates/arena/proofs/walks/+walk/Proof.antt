@@ -1,150 +1,277 @@
--- `arena::walks::walk` meets its contract. The measure is the position, which falls at each call. The loop's invariant: the node passes
--- exactly if the members from i on do, and the flags are right.
+-- `arena::walks::walk` meets its contract. The measure is the position, which falls at each call. The loop's invariant: the node is clean
+-- exactly if the members from i on are, and the flags are right.
 use mathlib.Core.Path.{_≡_, refl}
-use Prim.Native.Nat.{ℕ, _-_, _≤_, _<_}
+use Prim.Native.Nat.{_≤_, _-_}
 use native.Mathlib.Omega.{arith}
 use lib.ListN.{length, drop}
 use borrow.Author.Needs.{needs}
 use borrow.Author.Tests.{not-true, not-false}
-use borrow.Fn.Kinds.{In}
-use borrow.Fn.PlainCycle.{Measures, is, falls, and}
 use Rattle.arena.specs.Lists.{all}
 use Rattle.arena.specs.Nodes.{nodeAt, args}
 use Rattle.arena.specs.Cells.{used}
-use Rattle.arena.specs.Walks.{walked}
-use Rattle.arena.specs.Visit.{ruleOf, Flagged}
-use Rattle.arena.proofs.Visit.{here, by-args, visit-kind, visit-flag, slot-fits, arg-begins, arg-falls, visit-fails, visit-on, visit-ends}
+use Rattle.arena.specs.Visit.{clean, Known}
+use Rattle.arena.proofs.Visit.{here, walk-set, walk-app, walk-flag, slot-fits, walk-args, arg-stands, arg-falls, walk-fails, walk-on, walk-ends}
+use Prim.Native.Nat.{ℕ, _<_}
+use borrow.Fn.Kinds.{In}
+use borrow.Fn.PlainCycle.{Measures, is, falls, and}
 use Rattle.arena.proofs.walks.walk.Reads as walk
 use Rattle.arena.proofs.walks.walk.Kinds as walk-kinds
-use Rattle.arena.proofs.walks.+walk.Lts-walk as lts
+use Rattle.arena.proofs.walks.+walk.Lts-walk as walk-lts
 use Rattle.arena.proofs.walks.arg_at.Reads as arg-at-reads
 use Rattle.arena.proofs.walks.arg_count.Reads as arg-count-reads
-use Rattle.arena.proofs.walks.verdict.Reads as verdict-reads
 use Rattle.arena.proofs.walks.+walk.{statement}
 use Rattle.arena.proofs.walks.+walk.Tie.{close}
 
 abbrev μ-walk : Measures 2 walk-kinds.ps ℕ
 μ-walk κs a = a .1 .1 .1 .0
 
-abbrev at-t : ℕ → In 2 walk-kinds.ps
-at-t t = and 2 walk-kinds.ps (is 2 walk-kinds.ps μ-walk t) walk.Pre
+abbrev walk-at : ℕ → In 2 walk-kinds.ps
+walk-at t = and 2 walk-kinds.ps (is 2 walk-kinds.ps μ-walk t) walk.Pre
 
-abbrev below-t : ℕ → In 2 walk-kinds.ps
-below-t t = and 2 walk-kinds.ps (falls 2 walk-kinds.ps _<_ μ-walk t) walk.Pre
+abbrev walk-below : ℕ → In 2 walk-kinds.ps
+walk-below t = and 2 walk-kinds.ps (falls 2 walk-kinds.ps _<_ μ-walk t) walk.Pre
 
-abbrev calls : ℕ → lts.Claims
-calls t = (
-  verdict-reads.Asked,
-  verdict-reads.Learnt,
+abbrev walk-Inv-loop : walk-lts.InvT-loop
+walk-Inv-loop cells mark flags₀ at kind slot n i₀ flags i =
+    (i ≤ n) × (clean (used cells mark) at ≡ all (clean (used cells mark)) (drop i (args (nodeAt (used cells mark) at))))
+    × Known cells mark flags × (length flags ≡ length flags₀)
+
+abbrev walk-μ-loop : walk-lts.MeasureT-loop
+walk-μ-loop cells mark flags₀ at kind slot n i₀ flags i = n - i
+
+walk-mul-kind : (t : ℕ) → walk-lts.Need-mul-kind (
   arg-count-reads.Asked,
   arg-count-reads.Learnt,
   arg-at-reads.Asked,
   arg-at-reads.Learnt,
-  below-t t,
+  walk-below t,
   walk.Post,
-)
+) (walk-at t) walk.Post walk-Inv-loop walk-μ-loop
+walk-mul-kind t c = omega (arith, here (c .before .before .pre .1 .0))
 
-abbrev Inv-loop : lts.InvT-loop
-Inv-loop cells mark flags₀ at terms says slot n i₀ flags i =
-    (i ≤ n) × (walked (ruleOf terms) (used cells mark) at ≡ all (walked (ruleOf terms) (used cells mark)) (drop i (args (nodeAt (used cells mark) at))))
-    × Flagged terms cells mark flags × (length flags ≡ length flags₀)
+walk-shared-slice-read-kind : (t : ℕ) → walk-lts.Need-shared-slice-read-kind (
+  arg-count-reads.Asked,
+  arg-count-reads.Learnt,
+  arg-at-reads.Asked,
+  arg-at-reads.Learnt,
+  walk-below t,
+  walk.Post,
+) (walk-at t) walk.Post walk-Inv-loop walk-μ-loop
+walk-shared-slice-read-kind t c = omega (arith, here (c .before .before .before .pre .1 .0))
 
-abbrev μ-loop : lts.MeasureT-loop
-μ-loop cells mark flags₀ at terms says slot n i₀ flags i = n - i
+walk-returns : (t : ℕ) → walk-lts.Need-returns (
+  arg-count-reads.Asked,
+  arg-count-reads.Learnt,
+  arg-at-reads.Asked,
+  arg-at-reads.Learnt,
+  walk-below t,
+  walk.Post,
+) (walk-at t) walk.Post walk-Inv-loop walk-μ-loop
+walk-returns t c = let s = c .before .before .before .before .pre .1 in walk-set (s .0) (s .1) (c .if1 .taken)
 
-module _ (t : ℕ) where
-  mul-verdict : lts.Need-mul-verdict (calls t) (at-t t) walk.Post Inv-loop μ-loop
-  mul-verdict c = omega (arith, here (c .before .before .pre .1 .0))
+walk-returns-2 : (t : ℕ) → walk-lts.Need-returns-2 (
+  arg-count-reads.Asked,
+  arg-count-reads.Learnt,
+  arg-at-reads.Asked,
+  arg-at-reads.Learnt,
+  walk-below t,
+  walk.Post,
+) (walk-at t) walk.Post walk-Inv-loop walk-μ-loop
+walk-returns-2 t c = let s = c .before .before .before .before .before .pre .1 in walk-app (s .0) (s .1) (c .if2 .taken)
 
-  shared-slice-read-verdict : lts.Need-shared-slice-read-verdict (calls t) (at-t t) walk.Post Inv-loop μ-loop
-  shared-slice-read-verdict c = omega (arith, here (c .before .before .before .pre .1 .0))
+walk-slice-read-if3 : (t : ℕ) → walk-lts.Need-slice-read-if3 (
+  arg-count-reads.Asked,
+  arg-count-reads.Learnt,
+  arg-at-reads.Asked,
+  arg-at-reads.Learnt,
+  walk-below t,
+  walk.Post,
+) (walk-at t) walk.Post walk-Inv-loop walk-μ-loop
+walk-slice-read-if3 t c = let s = c .before .before .before .before .before .before .pre .1 in slot-fits (s .0) (s .1)
 
-  verdict-requires : lts.Need-verdict-requires (calls t) (at-t t) walk.Post Inv-loop μ-loop
-  verdict-requires c κs = search needs
+walk-returns-3 : (t : ℕ) → walk-lts.Need-returns-3 (
+  arg-count-reads.Asked,
+  arg-count-reads.Learnt,
+  arg-at-reads.Asked,
+  arg-at-reads.Learnt,
+  walk-below t,
+  walk.Post,
+) (walk-at t) walk.Post walk-Inv-loop walk-μ-loop
+walk-returns-3 t c = let s = c .before .before .before .before .before .before .before .pre .1 in walk-flag (s .0) (s .1) (c .if3 .taken)
 
-  returns : lts.Need-returns (calls t) (at-t t) walk.Post Inv-loop μ-loop
-  returns c =
-      let s = c .before .before .before .before .before in let v = c .before .verdict in
-      visit-kind (s .args .terms) (s .pre .1 .0) (s .pre .1 .1) (v .result) (v .ensures) (c .if1 .taken)
+walk-arg-count-requires : (t : ℕ) → walk-lts.Need-arg-count-requires (
+  arg-count-reads.Asked,
+  arg-count-reads.Learnt,
+  arg-at-reads.Asked,
+  arg-at-reads.Learnt,
+  walk-below t,
+  walk.Post,
+) (walk-at t) walk.Post walk-Inv-loop walk-μ-loop
+walk-arg-count-requires t c κs = c .before .before .before .before .before .before .before .pre .1 .0
 
-  slice-read-if2 : lts.Need-slice-read-if2 (calls t) (at-t t) walk.Post Inv-loop μ-loop
-  slice-read-if2 c = let s = c .before .before .before .before .before .before in slot-fits (s .args .terms) (s .pre .1 .0) (s .pre .1 .1)
+walk-loop-holds : (t : ℕ) → walk-lts.Need-loop-holds (
+  arg-count-reads.Asked,
+  arg-count-reads.Learnt,
+  arg-at-reads.Asked,
+  arg-at-reads.Learnt,
+  walk-below t,
+  walk.Post,
+) (walk-at t) walk.Post walk-Inv-loop walk-μ-loop
+walk-loop-holds t c =
+    let s = c .before .before .before .before .before .before .before .before .pre .1 in
+    (omega arith, walk-args (s .0) (c .before .before .before .before .if1 .left) (c .before .before .before .if2 .left), s .1, refl)
 
-  returns-2 : lts.Need-returns-2 (calls t) (at-t t) walk.Post Inv-loop μ-loop
-  returns-2 c = let s = c .before .before .before .before .before .before .before in visit-flag (s .args .terms) (s .pre .1 .0) (s .pre .1 .1) (c .if2 .taken)
+walk-arg-at-requires : (t : ℕ) → walk-lts.Need-arg-at-requires (
+  arg-count-reads.Asked,
+  arg-count-reads.Learnt,
+  arg-at-reads.Asked,
+  arg-at-reads.Learnt,
+  walk-below t,
+  walk.Post,
+) (walk-at t) walk.Post walk-Inv-loop walk-μ-loop
+walk-arg-at-requires t c κs =
+    let e = c .before .before .arg-count .ensures in
+    (c .before .before .before .before .before .before .before .before .before .before .pre .1 .0, omega arith)
 
-  arg-count-requires : lts.Need-arg-count-requires (calls t) (at-t t) walk.Post Inv-loop μ-loop
-  arg-count-requires c κs = c .before .before .before .before .before .before .before .pre .1 .0
+walk-walk-requires : (t : ℕ) → walk-lts.Need-walk-requires (
+  arg-count-reads.Asked,
+  arg-count-reads.Learnt,
+  arg-at-reads.Asked,
+  arg-at-reads.Learnt,
+  walk-below t,
+  walk.Post,
+) (walk-at t) walk.Post walk-Inv-loop walk-μ-loop
+walk-walk-requires t c κs =
+    let s = c .before .before .before .before .before .before .before .before .before .before .before .before .pre .1 in
+    let e = c .before .before .before .before .arg-count .ensures in
+    let i = c .before .before .before .loop .i in
+    let x = c .before .arg-at in
+    let f = arg-falls (s .0) i (x .result) (omega arith) (x .ensures) in
+    (omega arith, (arg-stands (s .0) i (x .result) (omega arith) (x .ensures), c .before .before .before .loop .inv .2))
 
-  loop-holds : lts.Need-loop-holds (calls t) (at-t t) walk.Post Inv-loop μ-loop
-  loop-holds c =
-      let s = c .before .before .before .before .before .before .before .before in let v = c .before .before .before .before .verdict in
-      (omega arith, by-args (s .args .terms) (s .pre .1 .0) (v .result) (v .ensures) (c .before .before .before .if1 .left), s .pre .1 .1, refl)
+walk-same-length : (t : ℕ) → walk-lts.Need-same-length (
+  arg-count-reads.Asked,
+  arg-count-reads.Learnt,
+  arg-at-reads.Asked,
+  arg-at-reads.Learnt,
+  walk-below t,
+  walk.Post,
+) (walk-at t) walk.Post walk-Inv-loop walk-μ-loop
+walk-same-length t c = search needs
 
-  arg-at-requires : lts.Need-arg-at-requires (calls t) (at-t t) walk.Post Inv-loop μ-loop
-  arg-at-requires c κs = let e = c .before .before .arg-count .ensures in (c .before .before .before .before .before .before .before .before .before .before .pre .1 .0, omega arith)
+walk-returns-4 : (t : ℕ) → walk-lts.Need-returns-4 (
+  arg-count-reads.Asked,
+  arg-count-reads.Learnt,
+  arg-at-reads.Asked,
+  arg-at-reads.Learnt,
+  walk-below t,
+  walk.Post,
+) (walk-at t) walk.Post walk-Inv-loop walk-μ-loop
+walk-returns-4 t c =
+    let s = c .before .before .before .before .before .before .before .before .before .before .before .before .before .before .before .before .pre .1 in
+    let e = c .before .before .before .before .before .before .before .before .arg-count .ensures in
+    let l = c .before .before .before .before .before .before .before .loop in
+    let x = c .before .before .before .before .before .arg-at in
+    let w = c .before .before .before .walk in
+    walk-fails (s .0) (l .i) (x .result) (omega arith) (x .ensures) (l .inv .1) (w .ensures) (not-true _ (c .if4 .taken))
 
-  walk-requires : lts.Need-walk-requires (calls t) (at-t t) walk.Post Inv-loop μ-loop
-  walk-requires c κs =
-      let s = c .before .before .before .before .before .before .before .before .before .before .before .before in let e = c .before .before .before .before .arg-count .ensures in let i = c .before .before .before .loop .i in let x = c .before .arg-at in
-      let f = arg-falls (s .args .terms) (s .pre .1 .0) i (x .result) (omega arith) (x .ensures) in
-      (omega arith, (arg-begins (s .args .terms) (s .pre .1 .0) i (x .result) (omega arith) (x .ensures), c .before .before .before .loop .inv .2))
+walk-add-i : (t : ℕ) → walk-lts.Need-add-i (
+  arg-count-reads.Asked,
+  arg-count-reads.Learnt,
+  arg-at-reads.Asked,
+  arg-at-reads.Learnt,
+  walk-below t,
+  walk.Post,
+) (walk-at t) walk.Post walk-Inv-loop walk-μ-loop
+walk-add-i t c = search needs
 
-  same-length : lts.Need-same-length (calls t) (at-t t) walk.Post Inv-loop μ-loop
-  same-length c = search needs
+walk-loop-less : (t : ℕ) → walk-lts.Need-loop-less (
+  arg-count-reads.Asked,
+  arg-count-reads.Learnt,
+  arg-at-reads.Asked,
+  arg-at-reads.Learnt,
+  walk-below t,
+  walk.Post,
+) (walk-at t) walk.Post walk-Inv-loop walk-μ-loop
+walk-loop-less t c = search needs
 
-  returns-3 : lts.Need-returns-3 (calls t) (at-t t) walk.Post Inv-loop μ-loop
-  returns-3 c =
-      let s = c .before .before .before .before .before .before .before .before .before .before .before .before .before .before .before .before in let e = c .before .before .before .before .before .before .before .before .arg-count .ensures in let l = c .before .before .before .before .before .before .before .loop in let x = c .before .before .before .before .before .arg-at in
-      visit-fails (s .args .terms) (s .pre .1 .0) (l .i) (x .result) (omega arith) (x .ensures) (l .inv .1) (c .before .before .before .walk .ensures) (not-true _ (c .if3 .taken))
+walk-loop-again : (t : ℕ) → walk-lts.Need-loop-again (
+  arg-count-reads.Asked,
+  arg-count-reads.Learnt,
+  arg-at-reads.Asked,
+  arg-at-reads.Learnt,
+  walk-below t,
+  walk.Post,
+) (walk-at t) walk.Post walk-Inv-loop walk-μ-loop
+walk-loop-again t c =
+    let s = c .before .before .before .before .before .before .before .before .before .before .before .before .before .before .before .before .pre .1 in
+    let e = c .before .before .before .before .before .before .before .before .arg-count .ensures in
+    let l = c .before .before .before .before .before .before .before .loop in
+    let x = c .before .before .before .before .before .arg-at in
+    let w = c .before .before .before .walk in
+    (omega arith, walk-on (s .0) (l .i) (x .result) (omega arith) (x .ensures) (l .inv .1) (w .ensures) (not-false _ (c .if4 .left)), w .ensures .known, search needs)
 
-  add-i : lts.Need-add-i (calls t) (at-t t) walk.Post Inv-loop μ-loop
-  add-i c = search needs
+walk-slice-write-flags : (t : ℕ) → walk-lts.Need-slice-write-flags (
+  arg-count-reads.Asked,
+  arg-count-reads.Learnt,
+  arg-at-reads.Asked,
+  arg-at-reads.Learnt,
+  walk-below t,
+  walk.Post,
+) (walk-at t) walk.Post walk-Inv-loop walk-μ-loop
+walk-slice-write-flags t c = slot-fits (c .before .before .before .before .before .before .before .before .before .before .pre .1 .0) (c .before .loop .inv .2)
 
-  loop-less : lts.Need-loop-less (calls t) (at-t t) walk.Post Inv-loop μ-loop
-  loop-less c = search needs
+walk-same-length-2 : (t : ℕ) → walk-lts.Need-same-length-2 (
+  arg-count-reads.Asked,
+  arg-count-reads.Learnt,
+  arg-at-reads.Asked,
+  arg-at-reads.Learnt,
+  walk-below t,
+  walk.Post,
+) (walk-at t) walk.Post walk-Inv-loop walk-μ-loop
+walk-same-length-2 t c = search needs
 
-  loop-again : lts.Need-loop-again (calls t) (at-t t) walk.Post Inv-loop μ-loop
-  loop-again c =
-      let s = c .before .before .before .before .before .before .before .before .before .before .before .before .before .before .before .before in let e = c .before .before .before .before .before .before .before .before .arg-count .ensures in let l = c .before .before .before .before .before .before .before .loop in let x = c .before .before .before .before .before .arg-at in let w = c .before .before .before .walk in (
-        omega arith,
-        visit-on (s .args .terms) (s .pre .1 .0) (l .i) (x .result) (omega arith) (x .ensures) (l .inv .1) (w .ensures) (not-false _ (c .if3 .left)),
-        w .ensures .sure,
-        search needs,
-      )
-
-  slice-write-flags : lts.Need-slice-write-flags (calls t) (at-t t) walk.Post Inv-loop μ-loop
-  slice-write-flags c = let s = c .before .before .before .before .before .before .before .before .before .before in slot-fits (s .args .terms) (s .pre .1 .0) (c .before .loop .inv .2)
-
-  same-length-2 : lts.Need-same-length-2 (calls t) (at-t t) walk.Post Inv-loop μ-loop
-  same-length-2 c = search needs
-
-  returns-4 : lts.Need-returns-4 (calls t) (at-t t) walk.Post Inv-loop μ-loop
-  returns-4 c =
-      let s = c .before .before .before .before .before .before .before .before .before .before in let e = c .before .before .arg-count .ensures in let l = c .before .loop in
-      visit-ends (s .args .terms) (s .pre .1 .0) (l .i) (omega arith) (l .inv .1) (l .inv .2)
+walk-returns-5 : (t : ℕ) → walk-lts.Need-returns-5 (
+  arg-count-reads.Asked,
+  arg-count-reads.Learnt,
+  arg-at-reads.Asked,
+  arg-at-reads.Learnt,
+  walk-below t,
+  walk.Post,
+) (walk-at t) walk.Post walk-Inv-loop walk-μ-loop
+walk-returns-5 t c =
+    let e = c .before .before .arg-count .ensures in
+    let l = c .before .loop in
+    walk-ends (c .before .before .before .before .before .before .before .before .before .before .pre .1 .0) (l .i) (omega arith) (l .inv .1) (l .inv .2)
 
 pub +walk-spec : {M : Type 1} → statement M
-+walk-spec = close μ-walk λ t. lts.spec (calls t)
-    (at-t t)
++walk-spec = close μ-walk λ t. walk-lts.spec (
+  arg-count-reads.Asked,
+  arg-count-reads.Learnt,
+  arg-at-reads.Asked,
+  arg-at-reads.Learnt,
+  walk-below t,
+  walk.Post,
+)
+    (walk-at t)
     walk.Post
-    Inv-loop
-    μ-loop
-    (mul-verdict t)
-    (shared-slice-read-verdict t)
-    (verdict-requires t)
-    (returns t)
-    (slice-read-if2 t)
-    (returns-2 t)
-    (arg-count-requires t)
-    (loop-holds t)
-    (arg-at-requires t)
-    (walk-requires t)
-    (same-length t)
-    (returns-3 t)
-    (add-i t)
-    (loop-less t)
-    (loop-again t)
-    (slice-write-flags t)
-    (same-length-2 t)
-    (returns-4 t)
+    walk-Inv-loop
+    walk-μ-loop
+    (walk-mul-kind t)
+    (walk-shared-slice-read-kind t)
+    (walk-returns t)
+    (walk-returns-2 t)
+    (walk-slice-read-if3 t)
+    (walk-returns-3 t)
+    (walk-arg-count-requires t)
+    (walk-loop-holds t)
+    (walk-arg-at-requires t)
+    (walk-walk-requires t)
+    (walk-same-length t)
+    (walk-returns-4 t)
+    (walk-add-i t)
+    (walk-loop-less t)
+    (walk-loop-again t)
+    (walk-slice-write-flags t)
+    (walk-same-length-2 t)
+    (walk-returns-5 t)
