@@ -1,25 +1,15 @@
 -- Document 01's refusal numbers in their order, and a whole call.
 use Prim.Native.Nat.{ℕ, zero, suc, _+_, _%_}
-use mathlib.Core.Bool.{Bool, true, false, not, _&&_, _||_}
-use mathlib.Core.Option.{Option, none, some}
+use mathlib.Core.Bool.{Bool, true, false, not, cond, _&&_, _||_}
 use mathlib.Core.List.{List, [], _∷_}
-use lib.ListN.{length, take}
+use lib.ListN.{length}
 use lib.Dec.{eqb, leb, ltb}
 use Rattle.arena.specs.Lists.{all, odds}
 use Rattle.arena.specs.Nodes.{Nodes, mark, Out}
 use Rattle.arena.specs.Cells.{used, padded}
 use Rattle.arena.specs.WellFormed.{isType, isTerm, formed}
-use Rattle.call.specs.Table.{Sort, ty, tm, Shape, fixed, pairs, run, Row, table, rowOf}
-
--- an instruction: operation, parameter, how many operands, and the operands
-pub record Instr : Type 0 where
-  pub op : ℕ
-  pub par : ℕ
-  pub count : ℕ
-  pub operands : List ℕ
-
-abbrev pub instr : ℕ → ℕ → List ℕ → Instr
-instr o p xs = record { op = o; par = p; count = length xs; operands = xs }
+use Rattle.instruction.specs.Instruction.{Instr}
+use Rattle.call.specs.Table.{Sort, ty, tm, Shape, fixed, pairs, run, Row, known, row}
 
 -- ---- refusals 2 to 8: numbered tests, of which the first that holds is given
 
@@ -41,7 +31,8 @@ sortOk a tm x = isTerm a x
 
 -- the first ones of these sorts, the others terms
 unfoldable pub sortsOk : Nodes → List Sort → List ℕ → Bool
-sortsOk a ss [] = true
+sortsOk a [] [] = true
+sortsOk a (s ∷ ss) [] = false
 sortsOk a [] (x ∷ xs) = sortOk a tm x && sortsOk a [] xs
 sortsOk a (s ∷ ss) (x ∷ xs) = sortOk a s x && sortsOk a ss xs
 
@@ -57,17 +48,21 @@ unfoldable pub firstOf : List Test → ℕ
 firstOf [] = 0
 firstOf (test n b ∷ ts) = elim b [ true ↦ n | false ↦ firstOf ts ]
 
--- of an operation in the table, with n operands counted and those in xs to be read
-unfoldable pub tests : Nodes → ℕ → ℕ → List ℕ → Row → List Test
-tests a p n xs r =
-    test 2 (not (countOk (r .shape) n) || (not (r .takes) && not (eqb p 0)))
-    ∷ test 3 (tooMany (r .shape) n)
-    ∷ test 4 (not (operandsOk a (r .shape) xs))
-    ∷ test 5 (r .five a xs)
-    ∷ test 6 (r .six a p xs)
-    ∷ test 7 (r .seven a p xs)
-    ∷ test 8 (r .eight a p xs)
+-- of an instruction whose operation has the row r
+unfoldable pub tests : Nodes → Instr → Row → List Test
+tests a i r =
+    test 2 (not (countOk (r .shape) (i .count)) || (not (r .takes) && not (eqb (i .par) 0)))
+    ∷ test 3 (tooMany (r .shape) (i .count))
+    ∷ test 4 (not (operandsOk a (r .shape) (i .operands)))
+    ∷ test 5 (r .five a (i .operands))
+    ∷ test 6 (r .six a (i .par) (i .operands))
+    ∷ test 7 (r .seven a (i .par) (i .operands))
+    ∷ test 8 (r .eight a (i .par) (i .operands))
     ∷ []
+
+-- refusals 2 to 8, or 0
+unfoldable pub refusal : Nodes → Instr → ℕ
+refusal a i = cond (known (i .op)) (firstOf (tests a i (row (i .op)))) 2
 
 -- ---- a call
 
@@ -86,15 +81,13 @@ done r a = record { reply = r; after = a }
 unfoldable pub fitted : ℕ → Nodes → Out → Done
 fitted n a o = elim (leb (mark (o .arena)) n) [ true ↦ done (ok (o .at) (mark (o .arena))) (o .arena) | false ↦ done (refused 9) a ]
 
-unfoldable pub withRow : ℕ → Nodes → Instr → Option Row → Done
-withRow n a i none = done (refused 2) a
-withRow n a i (some r) =
-    let xs = take (i .count) (i .operands) in
-    elim (firstOf (tests a (i .par) (i .count) xs r)) [ zero ↦ fitted n a (r .build a (i .par) xs) | suc k ↦ done (refused (suc k)) a ]
+-- what the operation builds
+abbrev pub build : Nodes → Instr → Out
+build a i = row (i .op) .build a (i .par) (i .operands)
 
 -- in an arena of n cells
 unfoldable pub call : ℕ → Nodes → Instr → Done
-call n a i = withRow n a i (rowOf table (i .op))
+call n a i = elim (refusal a i) [ zero ↦ fitted n a (build a i) | suc k ↦ done (refused (suc k)) a ]
 
 -- on lent cells and a mark: the answer and every cell afterwards
 pub record Lent : Type 0 where

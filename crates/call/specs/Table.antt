@@ -198,3 +198,11 @@ table =
 unfoldable pub rowOf : List Row → ℕ → Option Row
 rowOf [] o = none
 rowOf (r ∷ rs) o = elim (eqb (r .number) o) [ true ↦ some r | false ↦ rowOf rs o ]
+
+-- the operation is in the table
+unfoldable pub known : ℕ → Bool
+known o = elim (rowOf table o) [ none ↦ false | some r ↦ true ]
+
+-- its row; of an unknown operation one that is never looked at
+unfoldable pub row : ℕ → Row
+row o = elim (rowOf table o) [ none ↦ plain 0 noOperand free (λ a xs. out a 0) | some r ↦ r ]

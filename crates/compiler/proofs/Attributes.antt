@@ -28,7 +28,7 @@ use Rattle.factory.proofs.Made.{bool-law}
 use Rattle.factory.proofs.Options.{isSome-law}
 use Rattle.factory.proofs.Records.{recordGet-law}
 use Rattle.factory.proofs.Guards.{opt-test}
-use Rattle.compiler.specs.Compiler.{fieldsAt, compiledHasAttr, compiledGetAttr}
+use Rattle.compiler.specs.Compiler.{fieldsAt, hasSome, compiledHasAttr, optioned, compiledGetAttr}
 use Rattle.compiler.specs.Meanings.{hasV, means74, means75}
 use Rattle.compiler.proofs.Unary.{some-after}
 
@@ -77,11 +77,11 @@ module _ {a : Nodes} (w : WF a) (k t : ℕ) (s : small k ≡ true) (m : isTerm a
   there I G e = has-field (tyOf a) k (fieldsAt a t) (asRec (meaning I a t)) (fitted I G) ∙ ap isThere e
 
   pub compiledHasAttr-law : Law a (Lit a t) (topt tbool) (λ I. means74 k (meaning I a t)) (compiledHasAttr a k t)
-  unfolding compiledHasAttr isThere
+  unfolding compiledHasAttr hasSome isThere
   compiledHasAttr-law = go (field (fieldsAt a t) k) refl
     where
       go : (f : Option ℕ) → field (fieldsAt a t) k ≡ f → Law a (Lit a t) (topt tbool) (λ I. means74 k (meaning I a t))
-          (elim f [ none ↦ someOf a F | some y ↦ cond (isOption a y) (recordGet a k t ⨟ isSome ⨟ someOf) (someOf a T) ])
+          (elim f [ none ↦ someOf a F | some y ↦ cond (isOption a y) (recordGet a k t ⨟ hasSome) (someOf a T) ])
       go none e = reads (some-after (bool-law w {L = Lit a t} false)) (λ l. l) (λ I G. rw (there I G e))
       go (some u) e =
           law-if (isOption a u) _ _
@@ -96,7 +96,7 @@ module _ {a : Nodes} (w : WF a) (k t : ℕ) (s : small k ≡ true) (m : isTerm a
 
   -- u is the type of the attribute k
   pub compiledGetAttr-law : (u : ℕ) → field (fieldsAt a t) k ≡ some u → Law a (Lit a t) (optional (tyOf a u)) (λ I. means75 (tyOf a u) k (meaning I a t)) (compiledGetAttr a k t)
-  unfolding compiledGetAttr optional lifted
+  unfolding compiledGetAttr optioned optional lifted
   compiledGetAttr-law u e =
       let l = recordGet-law w k t u s m h e in
       rw (field-fieldD (fieldsAt a t) k u e, opt-test w u (field-type w (typeAt a t) k u h e)) (go l (isOption a u))

@@ -28,10 +28,11 @@ use Rattle.factory.specs.SetSteps.{optionGet}
 use Rattle.factory.specs.Meanings.{means15, means55, isNoneV, anyNoneV, isOpt, optional, lifted}
 use Rattle.factory.proofs.Law.{Typed, opt-typed, typed-ext, mean-old, lit-old, Law, reads, retyped, onward}
 use Rattle.factory.proofs.Lists.{means-old, lits-old, terms-old}
-use Rattle.factory.proofs.Listed.{recordTy, record-law}
+use Rattle.factory.specs.Meanings.{recordTy}
+use Rattle.factory.proofs.Listed.{record-law}
 use Rattle.factory.proofs.Options.{get-law}
 use Rattle.factory.proofs.Guards.{allSome-law}
-use Rattle.compiler.specs.Compiler.{getFields, compiledRecord}
+use Rattle.compiler.specs.Compiler.{getFields, ifAllGiven, compiledRecord}
 use Rattle.compiler.specs.Meanings.{innerV, innerTy, means73}
 use Rattle.compiler.proofs.Unary.{some-after}
 
@@ -186,7 +187,7 @@ sorts-old {a} {b} e r p q =
 pub compiledRecord-law : {a : Nodes} → WF a → (ats : List ℕ) → length ats % 2 ≡ 0 → length ats ≤ 128 → all small (evens ats) ≡ true → all (isTerm a) (odds ats) ≡ true
     → all (λ x. sortIs a x 3) (odds ats) ≡ true
     → Law a (all (isLit a) (odds ats) ≡ true) (topt (recordTy (λ x. innerTy (tyAt a x)) ats)) (λ I. means73 (evens ats) (map (meaning I a) (odds ats))) (compiledRecord a ats)
-unfolding compiledRecord optional lifted isOpt
+unfolding compiledRecord ifAllGiven optional lifted isOpt
 compiledRecord-law {a} w ats even few s p q =
     let found = got-all w ats even p q ext-same w [] in
     let g = found .all-got in

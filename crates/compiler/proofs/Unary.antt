@@ -15,7 +15,7 @@ use Rattle.factory.proofs.Logic.{not-law}
 use Rattle.factory.proofs.Bits.{bvneg-law, bvnego-law}
 use Rattle.factory.proofs.SetLaws.{isEmpty-law}
 use Rattle.factory.proofs.Guards.{ifFalse-law}
-use Rattle.compiler.specs.Compiler.{compiledNot, compiledNeg, compiledIsEmpty}
+use Rattle.compiler.specs.Compiler.{compiledNot, negUnless, compiledNeg, compiledIsEmpty}
 use Rattle.compiler.specs.Meanings.{means70, means71, means72}
 
 -- some of what a step answers
@@ -32,7 +32,7 @@ module _ {a : Nodes} (w : WF a) (t : ℕ) where
   compiledIsEmpty-law m = some-after (isEmpty-law w t m)
 
   pub compiledNeg-law : Typed a (tbv 64) t → Law a (Lit a t) (topt (tbv 64)) (λ I. means71 (meaning I a t)) (compiledNeg a t)
-  unfolding compiledNeg asBool
+  unfolding compiledNeg negUnless asBool
   compiledNeg-law m =
       let g = bvnego-law w t m in
       let b = bvnegoT a t in

@@ -16,9 +16,13 @@ use Rattle.factory.specs.Helpers.{isSome, ifFalse, isOption, ifAllSome}
 unfoldable pub compiledNot : Nodes → ℕ → Out
 compiledNot a t = notT a t ⨟ someOf
 
--- whether it overflows, then the negation, then the choice
+-- the negation, and the choice
+unfoldable pub negUnless : Nodes → ℕ → ℕ → Out
+negUnless a g t = bvnegT a t ⨟ λ b n. ifFalse b g n
+
+-- whether it overflows comes first
 unfoldable pub compiledNeg : Nodes → ℕ → Out
-compiledNeg a t = bvnegoT a t ⨟ λ b g. bvnegT b t ⨟ λ c n. ifFalse c g n
+compiledNeg a t = bvnegoT a t ⨟ λ b g. negUnless b g t
 
 unfoldable pub compiledIsEmpty : Nodes → ℕ → Out
 compiledIsEmpty a t = setIsEmpty a t ⨟ someOf
@@ -31,8 +35,12 @@ getFields a done [] k = k a done
 getFields a done (x ∷ []) k = k a done
 getFields a done (x ∷ y ∷ r) k = let o = optionGet a y in getFields (o .arena) (done ++ (x ∷ o .at ∷ [])) r k
 
+-- Some of the record r, if all listed options are
+unfoldable pub ifAllGiven : Nodes → List ℕ → ℕ → Out
+ifAllGiven a gs r = someOf a r ⨟ λ b s. ifAllSome b gs s
+
 unfoldable pub compiledRecord : Nodes → List ℕ → Out
-compiledRecord a ats = getFields a [] ats (λ b inner. recordOf b inner ⨟ someOf ⨟ λ c s. ifAllSome c (odds ats) s)
+compiledRecord a ats = getFields a [] ats (λ b inner. recordOf b inner ⨟ λ c r. ifAllGiven c (odds ats) r)
 
 -- ---- compile_has_attr and compile_get_attr
 
@@ -40,9 +48,17 @@ compiledRecord a ats = getFields a [] ats (λ b inner. recordOf b inner ⨟ some
 abbrev pub fieldsAt : Nodes → ℕ → List ℕ
 fieldsAt a t = memAt a (typeAt a t)
 
+-- an optional field is there if it is some
+unfoldable pub hasSome : Nodes → ℕ → Out
+hasSome a p = isSome a p ⨟ someOf
+
 unfoldable pub compiledHasAttr : Nodes → ℕ → ℕ → Out
 compiledHasAttr a k t =
-    elim (field (fieldsAt a t) k) [ none ↦ someOf a F | some y ↦ cond (isOption a y) (recordGet a k t ⨟ isSome ⨟ someOf) (someOf a T) ]
+    elim (field (fieldsAt a t) k) [ none ↦ someOf a F | some y ↦ cond (isOption a y) (recordGet a k t ⨟ hasSome) (someOf a T) ]
+
+-- put in some unless it is an option
+unfoldable pub optioned : Bool → Nodes → ℕ → Out
+optioned opt a p = cond opt (out a p) (someOf a p)
 
 unfoldable pub compiledGetAttr : Nodes → ℕ → ℕ → Out
-compiledGetAttr a k t = recordGet a k t ⨟ λ b p. cond (isOption a (fieldD (fieldsAt a t) k)) (out b p) (someOf b p)
+compiledGetAttr a k t = recordGet a k t ⨟ optioned (isOption a (fieldD (fieldsAt a t) k))

@@ -24,7 +24,7 @@ use Rattle.arena.proofs.Sound.{mean-bvn, mean-cmp, mean-so, bits-at}
 use Rattle.arena.proofs.Known.{Lit, bv-node, neg-node, lit-bv}
 use Rattle.arena.proofs.Built.{type-added}
 use Rattle.factory.specs.Makers.{boolAt, bitvecType, app}
-use Rattle.factory.specs.Bitvectors.{isBv, bothBv, bvnegT, bvappT, bvcmpT, bvnegoT, bvsoT, zeroExtendT}
+use Rattle.factory.specs.Bitvectors.{isBv, bothBv, bvnegT, bvappT, bvcmpT, bvnegoT, bvsoT, extendedTo, zeroExtendT}
 use Rattle.factory.specs.Meanings.{means30, meansApp, meansCmp, means45, meansSo, means49}
 use Rattle.factory.proofs.Law.{Typed, tm-typed, same-tm, bv-kind, bv-width, typed-ext, mean-old, lit-old, Law, stay, applied, reads, onward, law-if}
 use Rattle.factory.proofs.Made.{says, bitvec-law}
@@ -134,7 +134,7 @@ module _ {a : Nodes} (w : WF a) {n : ℕ} (op t u : ℕ) (m : Typed a (tbv n) t)
 -- ---- 49 zero_extend, by x; the wider type is found or added first
 
 pub zeroExtend-law : {a : Nodes} → WF a → {n : ℕ} (x t : ℕ) → Typed a (tbv n) t → n + x ≤ 64 → Law a (Lit a t) (tbv (n + x)) (λ I. means49 n x (meaning I a t)) (zeroExtendT a x t)
-unfolding zeroExtendT meanNode term bvMeans positions
+unfolding zeroExtendT extendedTo meanNode term bvMeans positions
 zeroExtend-law {a} w {n} x t m h =
     let v = bv-width w m in
     let r = width-range (w .chain) (typeAt a t) (bv-kind w m) .0 in

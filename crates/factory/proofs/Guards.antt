@@ -22,7 +22,7 @@ use Rattle.arena.proofs.Base.{false-lit, false-means}
 use Rattle.arena.proofs.Known.{Lit, B}
 use Rattle.factory.specs.Makers.{noneOf, someOf}
 use Rattle.factory.specs.Core.{orT, iteT}
-use Rattle.factory.specs.Helpers.{isNone, orSome, ifFalse, orNone, ifTrue, isOption, guarded, ifSome, anyNoneOn, anyNone, ifAllSome}
+use Rattle.factory.specs.Helpers.{isNone, orSome, ifFalse, orNone, ifTrue, isOption, noneOr, guarded, ifSome, orIsNone, anyNoneOn, anyNone, ifAllSome}
 use Rattle.factory.specs.Meanings.{isNoneV, anyNoneV, isOpt, optional, lifted, means62, means63, means64, means65, means66}
 use Rattle.factory.proofs.Law.{Typed, typed-type, tm-bool, opt-typed, typed-ext, mean-old, lit-old, Law, reads, onward}
 use Rattle.factory.proofs.Lists.{means-old, lits-old, terms-old}
@@ -83,13 +83,13 @@ module _ {a : Nodes} (w : WF a) {y : Ty} (g t : ℕ) (k : Typed a tbool g) (m : 
 
   -- ---- what if_some and if_all_some share
 
-  guarded-law : Law a (Lit a g × (g ≡ F → Lit a t)) (optional y) (λ I. cond (B I a g) vnone (lifted y (meaning I a t))) (guarded a g t)
-  unfolding guarded optional lifted
+  pub guarded-law : Law a (Lit a g × (g ≡ F → Lit a t)) (optional y) (λ I. cond (B I a g) vnone (lifted y (meaning I a t))) (guarded a g t)
+  unfolding guarded noneOr optional lifted
   guarded-law = go (isOption a (typeAt a t)) refl
     where
       go : (b : Bool) → isOption a (typeAt a t) ≡ b
           → Law a (Lit a g × (g ≡ F → Lit a t)) (cond (isOpt y) y (topt y)) (λ I. cond (B I a g) vnone (cond (isOpt y) (meaning I a t) (vsome (meaning I a t))))
-          (cond b (noneOf a (elemAt a t) ⨟ λ b n. iteT b g n t) (ifFalse a g t))
+          (cond b (noneOr a g t) (ifFalse a g t))
       go false e = rw (typed-opt w m e) unless-law
       go true e =
           let h = eqb-true (kindAt a (typeAt a t)) 3 e in
@@ -151,7 +151,7 @@ shift false r k = refl
 
 anyNoneOn-law : (r : List ℕ) {a : Nodes} → WF a → (acc : ℕ) → Typed a tbool acc → all (isTerm a) r ≡ true → Options a r
     → Law a (Lit a acc × (all (isLit a) r ≡ true)) tbool (λ I. bool (anyNoneV (map (meaning I a) r) || B I a acc)) (anyNoneOn a acc r)
-unfolding anyNoneOn anyNoneV asBool
+unfolding anyNoneOn orIsNone anyNoneV asBool
 anyNoneOn-law [] w acc m p o = holds w acc m (λ I G. refl) (λ l. l .0)
 anyNoneOn-law (x ∷ r) {a} w acc m p o =
     let t = all-at (isTerm a) x r p in

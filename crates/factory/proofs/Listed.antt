@@ -26,7 +26,7 @@ use Rattle.arena.proofs.Fields.{fieldsOf-all, fieldsOf-run, types-keys, types-r
 use Rattle.arena.proofs.Built.{type-added}
 use Rattle.arena.proofs.LitSets.{sorted-set}
 use Rattle.factory.specs.Makers.{setType, recordType, setOf, recordOf}
-use Rattle.factory.specs.Meanings.{means14, putV, listedV, means15}
+use Rattle.factory.specs.Meanings.{recordTy, means14, putV, listedV, means15}
 use Rattle.factory.proofs.Law.{Law, added, reads, onward}
 use Rattle.factory.proofs.Lists.{means-old, lits-old, terms-old}
 use Rattle.factory.proofs.Made.{holder}
@@ -76,10 +76,6 @@ module _ (f : ℕ → Value) where
   listed-rec done [] = refl
   listed-rec done (x ∷ []) = refl
   listed-rec done (x ∷ y ∷ r) = listed-rec (putField x y done) r ∙ ap (λ (fs : VFields). listedV fs (evens r) (map f (odds r))) (put-rec x y done)
-
--- the record type of the listed terms' types
-abbrev pub recordTy : (ℕ → Ty) → List ℕ → Ty
-recordTy f ats = trec (recTy (evens (fieldsOf [] ats)) (map f (odds (fieldsOf [] ats))))
 
 types-map : {a b : Nodes} → WF a → Ext a b → (r : List ℕ) → all (isTerm a) (odds r) ≡ true → map (tyOf b) (odds (fieldTypes a r)) ≡ map (tyAt a) (odds r)
 unfolding fieldTypes odds

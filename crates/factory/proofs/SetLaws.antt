@@ -25,7 +25,7 @@ use Rattle.arena.proofs.Sound.{set-at}
 use Rattle.arena.proofs.Rising.{common-all, common-length, common-rising}
 use Rattle.arena.proofs.Known.{Lit, set-node, lit-set}
 use Rattle.arena.proofs.LitSets.{Elems, elems, mem-lit, subset-lit, inter-lit}
-use Rattle.factory.specs.SetSteps.{isSet, isNil, emptyAt, bothSets, setMember, setSubset, setInter, setIsEmpty, setIntersects}
+use Rattle.factory.specs.SetSteps.{isSet, isNil, emptyAt, bothSets, setMember, setSubset, setInter, setIsEmpty, notEmpty, setIntersects}
 use Rattle.factory.specs.Meanings.{means50, means51, means52, emptyV, means53, means54}
 use Rattle.factory.proofs.Law.{Typed, typed-tm, same-tm, set-kind, set-elem, typed-ext, mean-old, lit-old, Law, stay, added, applied, reads, onward, law-if}
 use Rattle.factory.proofs.Made.{says}
@@ -179,7 +179,7 @@ module _ {a : Nodes} (w : WF a) {y : Ty} (s t : ℕ) (m : Typed a (tset y) s) (n
   -- ---- 54 intersects
 
   pub intersects-law : Law a (Lit a s × Lit a t) tbool (λ I. means54 (meaning I a s) (meaning I a t)) (setIntersects a s t)
-  unfolding setIntersects asBool asSet
+  unfolding setIntersects notEmpty asBool asSet
   intersects-law =
       let l = inter-law in
       let o = setInter a s t in

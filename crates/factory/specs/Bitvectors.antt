@@ -37,8 +37,10 @@ bvnegoT a t = cond (isBv a t) (out a (boolAt (bvnego (widthAt a t) (parAt a t)))
 unfoldable pub bvsoT : ℕ → Nodes → ℕ → ℕ → Out
 bvsoT op a t u = cond (bothBv a t u) (out a (boolAt (bvsoOf op (widthAt a t) (parAt a t) (parAt a u)))) (app a op 0 (t ∷ u ∷ []))
 
+-- to the wider type w
+unfoldable pub extendedTo : Nodes → ℕ → ℕ → ℕ → Out
+extendedTo a n t w = cond (isBv a t) (bitvecLit a w (zeroExtend (widthAt a t) n (parAt a t))) (put a (node 149 w n (t ∷ [])))
+
 -- the wider type comes first, for a literal and for a node
 unfoldable pub zeroExtendT : Nodes → ℕ → ℕ → Out
-zeroExtendT a n t =
-    bitvecType a (widthAt a t + n)
-    ⨟ λ b w. cond (isBv b t) (bitvecLit b w (zeroExtend (widthAt b t) n (parAt b t))) (put b (node 149 w n (t ∷ [])))
+zeroExtendT a n t = bitvecType a (widthAt a t + n) ⨟ λ b w. extendedTo b n t w

@@ -52,17 +52,25 @@ ifTrue a g t = someOf a t ⨟ λ b s. orNone b g s t
 abbrev pub isOption : Nodes → ℕ → Bool
 isOption a t = eqb (kindAt a t) 3
 
+-- none if g, else the option t
+unfoldable pub noneOr : Nodes → ℕ → ℕ → Out
+noneOr a g t = noneOf a (elemAt a t) ⨟ λ b n. iteT b g n t
+
 -- what if_some and if_all_some share: none if g, else t, put in some if it is no option
 unfoldable pub guarded : Nodes → ℕ → ℕ → Out
-guarded a g t = cond (isOption a (typeAt a t)) (noneOf a (elemAt a t) ⨟ λ b n. iteT b g n t) (ifFalse a g t)
+guarded a g t = cond (isOption a (typeAt a t)) (noneOr a g t) (ifFalse a g t)
 
 unfoldable pub ifSome : Nodes → ℕ → ℕ → Out
 ifSome a o t = isNone a o ⨟ λ b g. guarded b g t
 
--- a fold from false, each option's is_none before its or
+-- one option's is_none, before its or
+unfoldable pub orIsNone : Nodes → ℕ → ℕ → Out
+orIsNone a g acc = isNone a g ⨟ λ b n. orT b n acc
+
+-- a fold from false
 unfoldable pub anyNoneOn : Nodes → ℕ → List ℕ → Out
 anyNoneOn a acc [] = out a acc
-anyNoneOn a acc (g ∷ gs) = let o = isNone a g ⨟ λ b n. orT b n acc in anyNoneOn (o .arena) (o .at) gs
+anyNoneOn a acc (g ∷ gs) = let o = orIsNone a g acc in anyNoneOn (o .arena) (o .at) gs
 
 unfoldable pub anyNone : Nodes → List ℕ → Out
 anyNone a gs = anyNoneOn a F gs

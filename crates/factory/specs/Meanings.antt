@@ -2,14 +2,15 @@
 -- I is the interpretation, w a width, t a type, k an attribute, op an operation's number.
 use Prim.Native.Nat.{ℕ}
 use mathlib.Core.Bool.{Bool, true, false, not, cond, _&&_, _||_}
-use mathlib.Core.List.{List, [], _∷_}
+use mathlib.Core.List.{List, [], _∷_, map}
 use lib.Dec.{eqb, ltb}
 use Rattle.bitvec.specs.Theory.{bvneg}
 use Rattle.bitvec.specs.Logic.{zeroExtend}
 use Rattle.bitvec.specs.Overflow.{bvnego}
 use Rattle.bitvec.specs.Numbered.{bvappOf, bvcmpOf, bvsoOf}
+use Rattle.arena.specs.Lists.{evens, odds, fieldsOf}
 use Rattle.arena.specs.Values.{Ty, tbool, tbv, topt, tset, trec, Value, bool, bits, vnone, vsome, vset, vrec, Values, vnil, vcons, VFields, fnil, fcons, caseV, eqV, setV, memV, subsetV, interV, fieldV, asBool, asBits, asSet, asRec, getOr}
-use Rattle.arena.specs.Meaning.{Interp, noneGet}
+use Rattle.arena.specs.Meaning.{recTy, Interp, noneGet}
 
 -- ---- makers
 
@@ -43,6 +44,10 @@ unfoldable pub listedV : VFields → List ℕ → List Value → VFields
 listedV fs [] vs = fs
 listedV fs (k ∷ ks) [] = fs
 listedV fs (k ∷ ks) (v ∷ vs) = listedV (putV k v fs) ks vs
+
+-- the record type of listed fields, each value's type by f; of equal attributes the last wins
+abbrev pub recordTy : (ℕ → Ty) → List ℕ → Ty
+recordTy f ats = trec (recTy (evens (fieldsOf [] ats)) (map f (odds (fieldsOf [] ats))))
 
 -- record
 abbrev pub means15 : List ℕ → List Value → Value

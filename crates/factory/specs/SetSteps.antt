@@ -45,8 +45,11 @@ unfoldable pub setIsEmpty : Nodes → ℕ → Out
 setIsEmpty a s =
     cond (isSet a s) (out a (boolAt (isNil (memAt a s)))) (put a (node 20 (typeAt a s) 0 []) ⨟ λ b e. eqT b s e)
 
+unfoldable pub notEmpty : Nodes → ℕ → Out
+notEmpty a s = setIsEmpty a s ⨟ notT
+
 unfoldable pub setIntersects : Nodes → ℕ → ℕ → Out
-setIntersects a s t = setInter a s t ⨟ setIsEmpty ⨟ notT
+setIntersects a s t = setInter a s t ⨟ notEmpty
 
 unfoldable pub optionGet : Nodes → ℕ → Out
 optionGet a t = cond (eqb (kindAt a t) 19) (out a (argAt a t 0)) (app a 55 (elemAt a t) (t ∷ []))
