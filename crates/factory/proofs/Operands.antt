@@ -1,25 +1,30 @@
 -- What operands that fit are to the bitvector operations and to the steps on options. Assumes nothing.
 use mathlib.Core.Path.{_≡_, refl, sym, ap, _∙_, subst}
-use Prim.Native.Nat.{ℕ, _^_, _≤_, _<_}
+use Prim.Native.Nat.{ℕ, _+_, _^_, _≤_, _<_}
+use mathlib.Core.List.{[]}
 use native.Mathlib.Omega.{arith}
 use mathlib.Core.Bool.{Bool, true, _&&_}
 use mathlib.Core.Logic.{inl}
 use lib.Dec.{eqb}
 use borrow.Author.Tests.{eqb-true, leb-true}
 use Rattle.bitvec.specs.Theory.{IsWidth, IsBv, AreBv}
-use Rattle.arena.specs.Nodes.{Nodes, kindAt, typeAt, parAt, argAt, elemAt, widthAt}
+use Rattle.arena.specs.Nodes.{node, Nodes, kindAt, typeAt, parAt, argAt, elemAt, widthAt, put, Out}
 use Rattle.arena.specs.WellFormed.{isType, isTerm}
 use Rattle.arena.specs.Values.{Ty, tbool, topt}
 use Rattle.arena.specs.Meaning.{tyOf, tyAt}
-use Rattle.arena.proofs.Bools.{every-all, and-l, and-r}
+use Rattle.arena.proofs.Bools.{by-cases, every-all, and-l, and-r}
+use Rattle.arena.proofs.Ext.{Ext}
+use Rattle.arena.proofs.View.{is-bv}
+use Rattle.arena.proofs.Built.{TypeLaw, type-added}
+use Rattle.arena.proofs.Steps.{put-ext}
 use Rattle.arena.proofs.Chain.{WF, term-type}
 use Rattle.arena.proofs.Types.{width-range}
 use Rattle.arena.proofs.Known.{bv-node, some-node}
 use Rattle.arena.proofs.Whole.{elem-type}
 use Rattle.factory.specs.Fit.{Typed, Alike, OfKind}
-use Rattle.factory.specs.Bitvectors.{bothBv}
+use Rattle.factory.specs.Bitvectors.{isBv, bothBv, extendedTo}
 use Rattle.factory.specs.Makers.{boolAt}
-use Rattle.factory.proofs.Law.{tm-typed, same-tm, opt-typed}
+use Rattle.factory.proofs.Law.{tm-typed, same-tm, opt-typed, bv-typed, bv-kind, bv-width, typed-ext}
 use Rattle.factory.proofs.Equal.{bool-type-of, as-bool, some-type, some-inner}
 
 module _ {a : Nodes} (w : WF a) where
@@ -57,12 +62,29 @@ module _ {a : Nodes} (w : WF a) where
   pub bool-arm' : (b : Bool) (t u : ℕ) → u ≡ boolAt b → Alike a t u → Typed a tbool t
   bool-arm' b t u e m = as-bool w (bool-type-of w b u e (m .1)) (m .0)
 
+  -- the wider type, v the width
+  pub wider : {v t : ℕ} (n : ℕ) → v ≡ widthAt a t → OfKind a 2 t → widthAt a t + n ≤ 64 → IsWidth (v + n)
+  wider {t = t} n e k h = let r = width-range (w .chain) (typeAt a t) (k .sort) in record { least = omega arith; most = omega arith }
+
+  pub wider-type : {v t : ℕ} (n : ℕ) → v ≡ widthAt a t → OfKind a 2 t → widthAt a t + n ≤ 64 → TypeLaw a (node 2 0 (v + n) []) (put a (node 2 0 (v + n) []))
+  wider-type {v} n e k h = let i = wider n e k h in type-added (node 2 0 (v + n) []) w (omega arith) (is-bv (v + n) (i .least) (i .most))
+
+  -- a bitvector keeps its width
+  pub bv-keep : {b : Nodes} (n t : ℕ) → Ext a b → WF b → OfKind a 2 t → widthAt a t + n ≤ 64 → OfKind b 2 t × widthAt b t + n ≤ 64
+  bv-keep n t e v k h =
+      let m = typed-ext w e (bv-typed w t (k .isterm) (k .sort)) in
+      (record { isterm = m .isterm; sort = bv-kind v m }, rw (bv-width v m) h)
+
   -- an option's element type
   pub opt-type : (t : ℕ) → OfKind a 3 t → isType a (elemAt a t) ≡ true
   opt-type t k = elem-type w (typeAt a t) (inl (k .sort))
 
   pub opt-of : (t : ℕ) → OfKind a 3 t → Typed a (topt (tyOf a (elemAt a t))) t
   opt-of t k = opt-typed w t (k .isterm) (k .sort)
+
+pub extended-ext : (a : Nodes) (n t ty : ℕ) → Ext a (extendedTo a n t ty .arena)
+unfolding extendedTo
+extended-ext a n t ty = by-cases (λ (o : Out). Ext a (o .arena)) (isBv a t) _ _ (λ e. put-ext a _) (λ e. put-ext a _)
 
 -- two terms of one type
 pub alike : {a : Nodes} {y : Ty} {x z : ℕ} → Typed a y x → Typed a y z → Alike a x z

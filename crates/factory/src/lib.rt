@@ -26,9 +26,9 @@ ghost use Rattle.arena.specs.Did.{Did, termReply, typeReply};
 ghost use Rattle.factory.specs.Fit.{Typed, Alike, OfKind, Ready};
 ghost use Rattle.factory.specs.Makers.{boolAt, bitvecType, optionType, setType, recordType, bitvecLit, variable as variableOf, noneOf, someOf, app};
 ghost use Rattle.factory.specs.Core.{notT, opposites as opposed, junction, andT, orT, implies as impliesT, eqSimplify, eqT, iteSimplify, iteOfSomes, iteT, uninterpreted as uninterpretedOf};
-ghost use Rattle.factory.specs.Bitvectors.{bothBv, bvnegT, bvappT, bvcmpT, bvnegoT, bvsoT};
+ghost use Rattle.factory.specs.Bitvectors.{bothBv, bvnegT, bvappT, bvcmpT, bvnegoT, bvsoT, extendedTo, zeroExtendT};
 ghost use Rattle.factory.specs.SetSteps.{optionGet};
-ghost use Rattle.factory.specs.Helpers.{eqNone, isNoneIte, isNone, isSome, orSome, ifFalse, orNone, ifTrue};
+ghost use Rattle.factory.specs.Helpers.{eqNone, isNoneIte, isNone, isSome, orSome, ifFalse, orNone, ifTrue, noneOr, guarded as guardedBy, ifSome};
 
 // Where Bool, false and true stand in every arena.
 const BOOL: TypePos = TypePos(0);
@@ -444,6 +444,31 @@ pub fn bvso(cells: &mut [u64], cursor: Cursor, op: u64, t: TermPos, u: TermPos) 
     app2(cells, cursor, op, BOOL, t, u)
 }
 
+// `zero_extend` with its wider type made.
+fn extended(cells: &mut [u64], cursor: Cursor, n: u64, t: TermPos, ty: TypePos) -> TermStep
+    requires { ⌜ Ready (λ a. OfKind a 2 (t .0) × widthAt a (t .0) + n ≤ 64) (now cells) (cursor .mark) ⌝ }
+    ensures { λ r. ⌜ Did (λ a. extendedTo a n (t .0) (ty .0)) (now (cells .entry)) (cursor .mark) (termReply r) (now (cells .exit)) ⌝ }
+{
+    if kind_of(cells, cursor.mark, t.0) == 17 {
+        let width = width_of(cells, cursor, t);
+        let v = par_of(cells, cursor.mark, t.0);
+        return bitvec_lit(cells, cursor, ty, bitvec::zero_extend(width, n, v));
+    }
+    let members = [t.0];
+    cursor.term_node(cells, 149, ty, n, &members)
+}
+
+pub fn zero_extend(cells: &mut [u64], cursor: Cursor, n: u64, t: TermPos) -> TermStep
+    requires { ⌜ Ready (λ a. OfKind a 2 (t .0) × widthAt a (t .0) + n ≤ 64) (now cells) (cursor .mark) ⌝ }
+    ensures { λ r. ⌜ Did (λ a. zeroExtendT a n (t .0)) (now (cells .entry)) (cursor .mark) (termReply r) (now (cells .exit)) ⌝ }
+{
+    let width = width_of(cells, cursor, t);
+    match bitvec_type(cells, cursor, Width(width.0 + n)) {
+        TypeStep::At(next, ty) => extended(cells, next, n, t, ty),
+        TypeStep::Full => TermStep::Full,
+    }
+}
+
 // ---------- Core ADT operators with a trusted mapping to SMT ----------
 
 // The element type of an option or a set.
@@ -576,6 +601,40 @@ pub fn if_true(cells: &mut [u64], cursor: Cursor, g: TermPos, t: TermPos) -> Ter
 {
     match some_of(cells, cursor, t) {
         TermStep::At(next, s) => or_none(cells, next, g, s, t),
+        TermStep::Full => TermStep::Full,
+    }
+}
+
+// None if g, else the option t.
+fn none_or(cells: &mut [u64], cursor: Cursor, g: TermPos, t: TermPos) -> TermStep
+    requires { ⌜ Ready (λ a. Typed a tbool (g .0) × OfKind a 3 (t .0)) (now cells) (cursor .mark) ⌝ }
+    ensures { λ r. ⌜ Did (λ a. noneOr a (g .0) (t .0)) (now (cells .entry)) (cursor .mark) (termReply r) (now (cells .exit)) ⌝ }
+{
+    let ty = elem_of(cells, cursor, t);
+    match none_of(cells, cursor, ty) {
+        TermStep::At(next, n) => ite(cells, next, g, n, t),
+        TermStep::Full => TermStep::Full,
+    }
+}
+
+// What `if_some` and `if_all_some` share.
+fn guarded(cells: &mut [u64], cursor: Cursor, g: TermPos, t: TermPos) -> TermStep
+    requires { ⌜ Ready (λ a. Typed a tbool (g .0) × isTerm a (t .0) ≡ true) (now cells) (cursor .mark) ⌝ }
+    ensures { λ r. ⌜ Did (λ a. guardedBy a (g .0) (t .0)) (now (cells .entry)) (cursor .mark) (termReply r) (now (cells .exit)) ⌝ }
+{
+    let ty = type_of(cells, cursor.mark, t);
+    if kind_of(cells, cursor.mark, ty.0) == 3 {
+        return none_or(cells, cursor, g, t);
+    }
+    if_false(cells, cursor, g, t)
+}
+
+pub fn if_some(cells: &mut [u64], cursor: Cursor, g: TermPos, t: TermPos) -> TermStep
+    requires { ⌜ Ready (λ a. OfKind a 3 (g .0) × isTerm a (t .0) ≡ true) (now cells) (cursor .mark) ⌝ }
+    ensures { λ r. ⌜ Did (λ a. ifSome a (g .0) (t .0)) (now (cells .entry)) (cursor .mark) (termReply r) (now (cells .exit)) ⌝ }
+{
+    match is_none(cells, cursor, g) {
+        TermStep::At(next, n) => guarded(cells, next, n, t),
         TermStep::Full => TermStep::Full,
     }
 }
