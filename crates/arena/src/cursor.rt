@@ -119,12 +119,13 @@ impl Cursor {
     {
         let mark = self.mark;
         let at = find(cells, mark, kind, ty, par, members);
+        let size = HEADER + members.len();
+        let needed = if at < mark { 0 } else { size };
+        if cells.len() - mark < needed {
+            return NodeStep::Full;
+        }
         if at < mark {
             return NodeStep::At(self, at as u64);
-        }
-        let size = HEADER + members.len();
-        if cells.len() - mark < size {
-            return NodeStep::Full;
         }
         add(cells, mark, kind, ty, par, members);
         NodeStep::At(Cursor { mark: mark + size }, mark as u64)
