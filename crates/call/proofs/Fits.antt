@@ -14,14 +14,14 @@ use Rattle.arena.specs.Nodes.{Nodes, kindAt, typeAt, parAt, memAt, elemAt, widt
 use Rattle.arena.specs.Walks.{setFree}
 use Rattle.arena.specs.WellFormed.{small, isType, isTerm, kindIs, sortIs}
 use Rattle.arena.specs.Values.{tbool}
-use Rattle.arena.specs.Meaning.{tyOf, tyAt}
+use Rattle.arena.specs.Meaning.{tyOf}
 use Rattle.arena.proofs.Bools.{t≢f, and-l, and-r, or-false-l, or-false-r, every-all}
 use Rattle.arena.proofs.Runs.{field-fieldD}
 use Rattle.arena.proofs.Chain.{WF}
 use Rattle.arena.proofs.Types.{ty-bool}
 use Rattle.factory.specs.Fit.{Typed, Alike, OfKind}
 use Rattle.instruction.specs.Instruction.{Instr}
-use Rattle.call.specs.Table.{Sort, ty, tm, Shape, fixed, pairs, run, Row, #0, #1, #2, rest, oneType, oneTerm, twoTerms, notOf, notKind, notBools, firstNot, twoTypes, notAlike, large, largeAttributes, absentAttribute, known, row}
+use Rattle.call.specs.Table.{Sort, ty, tm, fixed, pairs, run, Row, #0, #1, #2, rest, oneType, oneTerm, twoTerms, notOf, notKind, notBools, firstNot, twoTypes, notAlike, large, largeAttributes, absentAttribute, known, row}
 use Rattle.call.specs.Call.{countOk, tooMany, sortOk, sortsOk, operandsOk, Test, test, firstOf, tests, refusal}
 
 -- ---- no test refused

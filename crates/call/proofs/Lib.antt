@@ -1,2 +1,5 @@
 pub mod Fits
+pub mod Rows
+pub mod Laws
+pub mod Demand3
 pub mod Examples
