@@ -22,7 +22,8 @@ use Rattle.arena.proofs.Types.{ty-bool}
 use Rattle.factory.specs.Fit.{Typed, Alike, OfKind}
 use Rattle.instruction.specs.Instruction.{Instr}
 use Rattle.call.specs.Table.{Sort, ty, tm, fixed, pairs, run, Row, #0, #1, #2, rest, oneType, oneTerm, twoTerms, notOf, notKind, notBools, firstNot, twoTypes, notAlike, large, largeAttributes, absentAttribute, known, row}
-use Rattle.call.specs.Call.{countOk, tooMany, sortOk, sortsOk, operandsOk, Test, test, firstOf, tests, refusal}
+use Rattle.call.specs.Call.{countOk, tooMany, sortOk, sortsOk, operandsOk, firstOf, tests, refusal}
+use Rattle.call.proofs.First.{quiet, tests-rise}
 
 -- ---- no test refused
 
@@ -37,22 +38,6 @@ pub record Passed (a : Nodes) (i : Instr) (r : Row) : Type 0 where
   pub seven : r .seven a (i .par) (i .operands) ≡ false
   pub eight : r .eight a (i .par) (i .operands) ≡ false
 
--- none of the tests holds
-abbrev pub Quiet : List Test → Type 0
-Quiet [] = Unit {0}
-Quiet (test n b ∷ ts) = (b ≡ false) × Quiet ts
-
--- their numbers are not 0
-abbrev Numbered : List Test → Type 0
-Numbered [] = Unit {0}
-Numbered (test n b ∷ ts) = (1 ≤ n) × Numbered ts
-
-pub quiet : (ts : List Test) → Numbered ts → firstOf ts ≡ 0 → Quiet ts
-unfolding firstOf
-quiet [] n e = tt
-quiet (test k true ∷ ts) n e = let h = n .0 in absurd (omega arith)
-quiet (test k false ∷ ts) n e = (refl, quiet ts (n .1) e)
-
 pub passed : (a : Nodes) (i : Instr) → refusal a i ≡ 0 → Passed a i (row (i .op))
 unfolding refusal tests
 passed a i e = go (known (i .op)) refl e
@@ -60,7 +45,7 @@ passed a i e = go (known (i .op)) refl e
     go : (b : Bool) → known (i .op) ≡ b → cond b (firstOf (tests a i (row (i .op)))) 2 ≡ 0 → Passed a i (row (i .op))
     go false k z = absurd (omega arith)
     go true k z =
-        let q = quiet (tests a i (row (i .op))) (omega arith, (omega arith, (omega arith, (omega arith, (omega arith, (omega arith, (omega arith, tt))))))) z in
+        let q = quiet 2 (tests a i (row (i .op))) (tests-rise a i (row (i .op))) (omega arith) z in
         record {
           listed = k;
           count = not-false _ (or-false-l _ _ (q .0));
