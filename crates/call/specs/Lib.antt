@@ -1,4 +1,5 @@
--- One call: the table of operations, the refusals in their order, and what is answered.
+-- One call: the table of operations, the refusals in their order, what is answered, and what is promised of it.
 pub mod Table
 pub mod Senses
 pub mod Call
+pub mod Promises
