@@ -12,22 +12,22 @@ use borrow.Author.Tests.{eq-eqb, ne-eqb, leb-true, leb-false, lt-ltb, le-ltb}
 use Rattle.arena.specs.Lists.{all, any, sameList, evens, odds, field, rising}
 use Rattle.arena.specs.Nodes.{Nodes, typeAt, fieldTypes}
 
-two : (l : List ℕ) (i : ℕ) → i + 1 < length l → drop i l ≡ getD l i 0 ∷ getD l (i + 1) 0 ∷ drop (i + 2) l
+pub two : (l : List ℕ) (i : ℕ) → i + 1 < length l → drop i l ≡ getD l i 0 ∷ getD l (i + 1) 0 ∷ drop (i + 2) l
 two l i h =
     let e1 : suc i ≡ i + 1 = omega arith in
     let e2 : suc (i + 1) ≡ i + 2 = omega arith in
     drop-cons l i 0 (omega arith) ∙ ap (λ (j : ℕ). getD l i 0 ∷ drop j l) e1
     ∙ ap (λ (r : List ℕ). getD l i 0 ∷ r) (drop-cons l (i + 1) 0 h ∙ ap (λ (j : ℕ). getD l (i + 1) 0 ∷ drop j l) e2)
 
-one : (l : List ℕ) (i : ℕ) → i < length l → drop i l ≡ getD l i 0 ∷ drop (i + 1) l
+pub one : (l : List ℕ) (i : ℕ) → i < length l → drop i l ≡ getD l i 0 ∷ drop (i + 1) l
 one l i h = let e1 : suc i ≡ i + 1 = omega arith in drop-cons l i 0 h ∙ ap (λ (j : ℕ). getD l i 0 ∷ drop j l) e1
 
 -- at most one is left
-data Few : List ℕ → Type 0 where
+pub data Few : List ℕ → Type 0 where
   f0 : Few []
   f1 : (x : ℕ) → Few (x ∷ [])
 
-few : (l : List ℕ) (i : ℕ) → length l ≤ i + 1 → Few (drop i l)
+pub few : (l : List ℕ) (i : ℕ) → length l ≤ i + 1 → Few (drop i l)
 few l i h = go (drop i l) (let e = length-drop i l in omega arith)
   where
     go : (r : List ℕ) → length r ≤ 1 → Few r

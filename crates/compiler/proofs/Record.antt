@@ -31,7 +31,7 @@ use Rattle.factory.proofs.Lists.{means-old, lits-old, terms-old}
 use Rattle.factory.specs.Meanings.{recordTy}
 use Rattle.factory.proofs.Listed.{record-law}
 use Rattle.factory.proofs.Options.{get-law}
-use Rattle.factory.proofs.Guards.{allSome-law}
+use Rattle.factory.proofs.Guards.{options, allSome-law}
 use Rattle.compiler.specs.Compiler.{getFields, ifAllGiven, compiledRecord}
 use Rattle.compiler.specs.Meanings.{innerV, innerTy, means73}
 use Rattle.compiler.proofs.Unary.{some-after}
@@ -202,7 +202,7 @@ compiledRecord-law {a} w ats even few s p q =
     let y : recordTy (tyAt b) inner ≡ recordTy (λ x. innerTy (tyAt a x)) ats = ap₂ (λ (ks : List ℕ) (ts : List Ty). trec (recTy ks ts)) (alike-keys f) (alike-holds f) in
     subst (λ (z : Out). Law a (all (isLit a) (odds ats) ≡ true) (topt (recordTy (λ x. innerTy (tyAt a x)) ats)) (λ I. means73 (evens ats) (map (meaning I a) (odds ats))) z) (sym (found .same _))
     (retyped (ap topt y) (onward e
-    (reads (allSome-law (r .wf) (odds ats) (terms-old e (odds ats) p) (sorts-old e (odds ats) p q) (o .at) (r .typed))
+    (reads (allSome-law (r .wf) (odds ats) (options _ (odds ats) (terms-old e (odds ats) p) (sorts-old e (odds ats) p q)) (o .at) (r .typed))
     (λ l. (lits-old e (odds ats) p l, (λ n. r .lit (g .lits l (λ I G. ap anyNoneV (sym (means-old e I (odds ats) p)) ∙ n I G)))))
     (λ I G. ap₂ (λ (vs : List Value) (v : Value). cond (anyNoneV vs) vnone v) (means-old e I (odds ats) p)
     (r .means I G ∙ ap₂ (λ (ks : List ℕ) (vs : List Value). vsome (means15 ks vs)) keys (alike-holds (g .means I G)))

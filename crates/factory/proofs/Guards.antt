@@ -20,15 +20,17 @@ use Rattle.arena.proofs.Whole.{elem-type}
 use Rattle.arena.proofs.TypeCanon.{tyKind, ty-kind}
 use Rattle.arena.proofs.Base.{false-lit, false-means}
 use Rattle.arena.proofs.Known.{Lit, B}
+use Rattle.factory.specs.Fit.{Options}
 use Rattle.factory.specs.Makers.{noneOf, someOf}
 use Rattle.factory.specs.Core.{orT, iteT}
 use Rattle.factory.specs.Helpers.{isNone, orSome, ifFalse, orNone, ifTrue, isOption, noneOr, guarded, ifSome, orIsNone, anyNoneOn, anyNone, ifAllSome}
 use Rattle.factory.specs.Meanings.{isNoneV, anyNoneV, isOpt, optional, lifted, means62, means63, means64, means65, means66}
-use Rattle.factory.proofs.Law.{Typed, typed-type, tm-bool, opt-typed, typed-ext, mean-old, lit-old, Law, reads, onward}
+use Rattle.factory.proofs.Law.{Typed, typed-type, tm-bool, opt-kind, typed-ext, mean-old, lit-old, Law, reads, onward}
 use Rattle.factory.proofs.Lists.{means-old, lits-old, terms-old}
 use Rattle.factory.proofs.Made.{bool-at-tm, none-law, some-law}
 use Rattle.factory.proofs.Logic.{holds, or-law}
 use Rattle.factory.proofs.Choice.{chosen-law, ite-law}
+use Rattle.factory.proofs.Operands.{opt-of}
 use Rattle.factory.proofs.Options.{isNone-law}
 
 -- ---- options by structure
@@ -121,25 +123,22 @@ ifSome-law {a} w o t k m =
 
 -- ---- lists of options
 
--- the term at x is an option
-record OptionAt (a : Nodes) (x : ℕ) : Type 0 where
-  elem : Ty
-  is : Typed a (topt elem) x
+pub options-ext : {a b : Nodes} → WF a → Ext a b → WF b → (r : List ℕ) → Options a r → Options b r
+options-ext w e v [] o = tt
+options-ext w e v (x ∷ r) o =
+    let m = typed-ext w e (opt-of w x (o .0)) in (record { isterm = m .isterm; sort = opt-kind v m }, options-ext w e v r (o .1))
 
-abbrev Options : Nodes → List ℕ → Type 0
-Options a [] = Unit {0}
-Options a (x ∷ r) = OptionAt a x × Options a r
-
-options-ext : {a b : Nodes} → WF a → Ext a b → (r : List ℕ) → Options a r → Options b r
-options-ext w e [] o = tt
-options-ext w e (x ∷ r) o = (record { elem = o .0 .elem; is = typed-ext w e (o .0 .is) }, options-ext w e r (o .1))
-
-options : {a : Nodes} → WF a → (r : List ℕ) → all (isTerm a) r ≡ true → all (λ x. sortIs a x 3) r ≡ true → Options a r
-options w [] p q = tt
-options {a} w (x ∷ r) p q =
+pub options : (a : Nodes) (r : List ℕ) → all (isTerm a) r ≡ true → all (λ x. sortIs a x 3) r ≡ true → Options a r
+options a [] p q = tt
+options a (x ∷ r) p q =
     let p' = all-at (isTerm a) x r p in
     let q' = all-at (λ x. sortIs a x 3) x r q in
-    (record { elem = tyOf a (elemAt a x); is = opt-typed w x (p' .0) (eqb-true _ _ (q' .0)) }, options w r (p' .1) (q' .1))
+    (record { isterm = p' .0; sort = eqb-true _ _ (q' .0) }, options a r (p' .1) (q' .1))
+
+pub options-terms : (a : Nodes) (r : List ℕ) → Options a r → all (isTerm a) r ≡ true
+unfolding all
+options-terms a [] o = refl
+options-terms a (x ∷ r) o = rw (o .0 .isterm) (options-terms a r (o .1))
 
 -- ---- any_none
 
@@ -149,28 +148,28 @@ shift true true k = refl
 shift true false k = refl
 shift false r k = refl
 
-anyNoneOn-law : (r : List ℕ) {a : Nodes} → WF a → (acc : ℕ) → Typed a tbool acc → all (isTerm a) r ≡ true → Options a r
+pub anyNoneOn-law : (r : List ℕ) {a : Nodes} → WF a → (acc : ℕ) → Typed a tbool acc → all (isTerm a) r ≡ true → Options a r
     → Law a (Lit a acc × (all (isLit a) r ≡ true)) tbool (λ I. bool (anyNoneV (map (meaning I a) r) || B I a acc)) (anyNoneOn a acc r)
 unfolding anyNoneOn orIsNone anyNoneV asBool
 anyNoneOn-law [] w acc m p o = holds w acc m (λ I G. refl) (λ l. l .0)
 anyNoneOn-law (x ∷ r) {a} w acc m p o =
     let t = all-at (isTerm a) x r p in
-    let n = isNone-law w x (o .0 .is) in
+    let n = isNone-law w x (opt-of w x (o .0)) in
     let b = isNone a x in
     let k = or-law (n .wf) (b .at) acc (n .typed) (typed-ext w (n .ext) m) in
     let c = orT (b .arena) (b .at) acc in
     let e = ext-trans (n .ext) (k .ext) in
     onward e
-    (reads (anyNoneOn-law r (k .wf) (c .at) (k .typed) (terms-old e r (t .1)) (options-ext w e r (o .1)))
+    (reads (anyNoneOn-law r (k .wf) (c .at) (k .typed) (terms-old e r (t .1)) (options-ext w e (k .wf) r (o .1)))
     (λ l. let l' = all-at (isLit a) x r (l .1) in (k .lit (n .lit (l' .0), lit-old (n .ext) m (l .0)), lits-old e r (t .1) (l' .1)))
     (λ I G. rw (means-old e I r (t .1), k .means I G, n .means I G, mean-old (n .ext) m I)
     (ap bool (shift (isNoneV (meaning I a x)) (anyNoneV (map (meaning I a) r)) (B I a acc)))))
 
-module _ {a : Nodes} (w : WF a) (r : List ℕ) (p : all (isTerm a) r ≡ true) (q : all (λ x. sortIs a x 3) r ≡ true) where
+module _ {a : Nodes} (w : WF a) (r : List ℕ) (o : Options a r) where
   pub anyNone-law : Law a (all (isLit a) r ≡ true) tbool (λ I. means65 (map (meaning I a) r)) (anyNone a r)
   unfolding anyNone asBool
   anyNone-law =
-      reads (anyNoneOn-law r w F (tm-bool w (bool-at-tm w false)) p (options w r p q)) (λ l. (false-lit w, l))
+      reads (anyNoneOn-law r w F (tm-bool w (bool-at-tm w false)) (options-terms a r o) o) (λ l. (false-lit w, l))
       (λ I G. rw (false-means I w) (ap bool (or-false (anyNoneV (map (meaning I a) r)))))
 
   -- a literal where the options are, and the term if none of them is none

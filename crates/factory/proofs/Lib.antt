@@ -13,3 +13,5 @@ pub mod Options
 pub mod Guards
 pub mod Calls
 pub mod Operands
+pub mod Picks
+pub mod Turns

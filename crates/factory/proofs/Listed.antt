@@ -10,7 +10,7 @@ use borrow.Author.Tests.{eqb-true, eq-eqb}
 use Rattle.arena.specs.Lists.{all, sameList, evens, odds, sorted, putField, fieldsOf}
 use Rattle.arena.specs.Nodes.{Node, node, Nodes, kindAt, typeAt, memAt, argAt, positions, keys, fieldTypes}
 use Rattle.arena.specs.Walks.{ruled, litRule, isLit, setFree}
-use Rattle.arena.specs.WellFormed.{small, fieldRun, isType, isTerm}
+use Rattle.arena.specs.WellFormed.{small, fieldRun, isType, isTerm, goodNode}
 use Rattle.arena.specs.Values.{Ty, tset, trec, Value, vset, vrec, VFields, fcons, recV}
 use Rattle.arena.specs.Meaning.{recTy, tyOf, tyAt, makerMeans, term, meanNode, meaning}
 use Rattle.arena.proofs.Bools.{every-all}
@@ -20,7 +20,7 @@ use Rattle.arena.proofs.Chain.{WF, type-below, term-type}
 use Rattle.arena.proofs.View.{is-set, is-rec, is-sett, is-recd}
 use Rattle.arena.proofs.Types.{ty-set, ty-rec}
 use Rattle.arena.proofs.Base.{tm-ext}
-use Rattle.arena.proofs.Whole.{fieldTypes-ext}
+use Rattle.arena.proofs.Whole.{fieldTypes-ext, good-is}
 use Rattle.arena.proofs.Rising.{sorted-all, sorted-rising, sorted-length}
 use Rattle.arena.proofs.Fields.{fieldsOf-all, fieldsOf-run, types-keys, types-run, types-all}
 use Rattle.arena.proofs.Built.{type-added}
@@ -84,6 +84,18 @@ types-map w e (x ∷ []) h = refl
 types-map {a} w e (x ∷ y ∷ r) h =
     let p = all-at (isTerm a) y (odds r) h in
     ap₂ _∷_ (ty-ext e (typeAt a y) (type-below a (typeAt a y) (term-type (w .chain) y (p .0)))) (types-map w e r (p .1))
+
+-- what the kept fields are, and so the record's type
+pub fields-even : (ats : List ℕ) → length ats ≤ 128 → all small (evens ats) ≡ true → length (fieldsOf [] ats) % 2 ≡ 0
+unfolding fieldRun
+fields-even ats l s = eqb-true (length (fieldsOf [] ats) % 2) 0 (every-all _ (fieldsOf-run ats l s) .0)
+
+pub record-type-good : {a : Nodes} → WF a → (ats : List ℕ) → length ats ≤ 128 → all small (evens ats) ≡ true → all (isTerm a) (odds ats) ≡ true
+    → goodNode a (node 5 0 0 (fieldTypes a (fieldsOf [] ats))) ≡ true
+unfolding all odds
+record-type-good {a} w ats l s m =
+    let fs = fieldsOf [] ats in
+    good-is w (is-rec (fieldTypes a fs) (types-run a fs (fieldsOf-run ats l s)) (types-all (w .chain) fs (fieldsOf-all (isTerm a) [] ats refl m)))
 
 pub record-law : {a : Nodes} → WF a → (ats : List ℕ) → length ats ≤ 128 → all small (evens ats) ≡ true → all (isTerm a) (odds ats) ≡ true
     → Law a (all (isLit a) (odds ats) ≡ true) (recordTy (tyAt a) ats) (λ I. means15 (evens ats) (map (meaning I a) (odds ats))) (recordOf a ats)

@@ -10,7 +10,7 @@ use borrow.Author.Tests.{eqb-true, leb-true}
 use Rattle.bitvec.specs.Theory.{IsWidth, IsBv, AreBv}
 use Rattle.arena.specs.Nodes.{node, Nodes, kindAt, typeAt, parAt, argAt, elemAt, widthAt, put, Out}
 use Rattle.arena.specs.WellFormed.{isType, isTerm}
-use Rattle.arena.specs.Values.{Ty, tbool, topt}
+use Rattle.arena.specs.Values.{Ty, tbool, topt, tset}
 use Rattle.arena.specs.Meaning.{tyOf, tyAt}
 use Rattle.arena.proofs.Bools.{by-cases, every-all, and-l, and-r}
 use Rattle.arena.proofs.Ext.{Ext}
@@ -24,7 +24,7 @@ use Rattle.arena.proofs.Whole.{elem-type}
 use Rattle.factory.specs.Fit.{Typed, Alike, OfKind}
 use Rattle.factory.specs.Bitvectors.{isBv, bothBv, extendedTo}
 use Rattle.factory.specs.Makers.{boolAt}
-use Rattle.factory.proofs.Law.{tm-typed, same-tm, opt-typed, bv-typed, bv-kind, bv-width, typed-ext}
+use Rattle.factory.proofs.Law.{tm-typed, same-tm, opt-typed, set-typed, bv-typed, bv-kind, bv-width, typed-ext}
 use Rattle.factory.proofs.Equal.{bool-type-of, as-bool, some-type, some-inner}
 
 module _ {a : Nodes} (w : WF a) where
@@ -85,6 +85,10 @@ module _ {a : Nodes} (w : WF a) where
 pub extended-ext : (a : Nodes) (n t ty : ℕ) → Ext a (extendedTo a n t ty .arena)
 unfolding extendedTo
 extended-ext a n t ty = by-cases (λ (o : Out). Ext a (o .arena)) (isBv a t) _ _ (λ e. put-ext a _) (λ e. put-ext a _)
+
+-- the second of two sets of one type
+pub set-alike : {a : Nodes} (w : WF a) {s t : ℕ} → OfKind a 4 s → Alike a s t → Typed a (tset (tyOf a (elemAt a s))) t
+set-alike w {s} k m = record { isterm = m .1 .isterm; typed = m .1 .typed ∙ set-typed w s (k .isterm) (k .sort) .typed }
 
 -- two terms of one type
 pub alike : {a : Nodes} {y : Ty} {x z : ℕ} → Typed a y x → Typed a y z → Alike a x z

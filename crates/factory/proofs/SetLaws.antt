@@ -13,7 +13,7 @@ use Rattle.arena.specs.Nodes.{node, Nodes, kindAt, typeAt, memAt, elemAt, posit
 use Rattle.arena.specs.Walks.{ruled, litRule, isLit}
 use Rattle.arena.specs.WellFormed.{isTerm}
 use Rattle.arena.specs.Values.{Ty, tbool, tset, Value, bool, vset, Values, vnil, vcons, code, compareT, compareV, eqV, insertV, setV, memV, subsetV, interV, asBool, asSet}
-use Rattle.arena.specs.Meaning.{Interp, Good, makerMeans, dataMeans, term, meanNode, meaning}
+use Rattle.arena.specs.Meaning.{tyOf, Interp, Good, makerMeans, dataMeans, term, meanNode, meaning}
 use Rattle.arena.proofs.Bools.{t≢f, and-l, and-r}
 use Rattle.arena.proofs.Runs.{all0}
 use Rattle.arena.proofs.Chain.{WF}
@@ -104,13 +104,18 @@ module _ {a : Nodes} (w : WF a) {y : Ty} (s : ℕ) (m : Typed a (tset y) s) wher
 
   -- ---- 53 is_empty
 
+  -- the literal empty set of its type
+  pub empty-law : (t : ℕ) → t ≡ typeAt a s → Law a (Unit {0}) (tset y) (λ I. vset vnil) (put a (node 20 t 0 []))
+  unfolding meanNode term makerMeans positions setV ruled litRule all
+  empty-law t e =
+      added (node 20 t 0 []) w (omega arith) (is-sett t [] (ap (kindAt a) e ∙ set-kind w m) (omega arith) (unfold rising in refl) (all0 (isTerm a)) refl) (ap (tyOf a) e ∙ m .typed) (λ x. refl)
+
   pub isEmpty-law : Law a (Lit a s) tbool (λ I. means53 (meaning I a s)) (setIsEmpty a s)
   unfolding setIsEmpty meanNode term makerMeans positions setV ruled litRule all
   isEmpty-law =
       law-if (isSet a s) _ _
       (λ e. says w (isNil (memAt a s)) (λ I G. ap bool (listed-empty (meaning I a) (memAt a s) ∙ ap emptyV (sym (members I e)))))
-      (λ e. let l : Law a (Unit {0}) (tset y) (λ I. vset vnil) (put a (node 20 (typeAt a s) 0 [])) =
-      added (node 20 (typeAt a s) 0 []) w (omega arith) (is-sett (typeAt a s) [] (set-kind w m) (omega arith) (unfold rising in refl) (all0 (isTerm a)) refl) (m .typed) (λ x. refl) in
+      (λ e. let l = empty-law (typeAt a s) refl in
       onward (l .ext)
       (reads (eq-law (l .wf) s (put a (node 20 (typeAt a s) 0 []) .at) (typed-ext w (l .ext) m) (l .typed)) (λ z. (lit-old (l .ext) m z, l .lit tt))
       (λ I G. ap bool (ap₂ eqV (mean-old (l .ext) m I ∙ sym (form I G)) (l .means I G) ∙ eq-empty (asSet (meaning I a s))))))

@@ -34,12 +34,16 @@ setSubset a s t =
     (cond (emptyAt a s) (out a T)
     (cond (bothSets a s t) (out a (boolAt (all (λ x. mem? x (memAt a t)) (memAt a s)))) (app a 51 0 (s ∷ t ∷ []))))
 
+-- the literal set of the members that both have
+abbrev pub interOf : Nodes → ℕ → ℕ → Out
+interOf a s t = put a (node 20 (typeAt a s) 0 (common (memAt a s) (memAt a t)))
+
 unfoldable pub setInter : Nodes → ℕ → ℕ → Out
 setInter a s t =
     cond (eqb s t) (out a s)
     (cond (emptyAt a s) (out a s)
     (cond (emptyAt a t) (out a t)
-    (cond (bothSets a s t) (put a (node 20 (typeAt a s) 0 (common (memAt a s) (memAt a t)))) (app a 52 (typeAt a s) (s ∷ t ∷ [])))))
+    (cond (bothSets a s t) (interOf a s t) (app a 52 (typeAt a s) (s ∷ t ∷ [])))))
 
 unfoldable pub setIsEmpty : Nodes → ℕ → Out
 setIsEmpty a s =

@@ -1,14 +1,22 @@
 // The factory: factory.rs, function by function in its order, over a lent arena. Each function builds the nodes that the Rust's text names, in the
 // order in which Rust evaluates it, and answers the term with the cursor behind it, or no room.
+use crate::runs::common;
+use crate::runs::contains;
+use crate::runs::contains_all;
+use crate::runs::field_or_0;
+use crate::runs::field_types;
 use arena::TermPos;
 use arena::TypePos;
 use arena::cells::arg_of;
 use arena::cells::kind_of;
+use arena::cells::members_of;
 use arena::cells::par_of;
 use arena::cells::type_of;
 use arena::cursor::Cursor;
 use arena::cursor::TermStep;
 use arena::cursor::TypeStep;
+use arena::sorting::fields;
+use arena::sorting::sorted;
 use arena::walks::is_literal;
 use bitvec::Width;
 ghost use mathlib.Core.Path.{_≡_};
@@ -16,19 +24,23 @@ ghost use mathlib.Core.Bool.{true, _&&_, _||_};
 ghost use mathlib.Core.List.{[], _∷_};
 ghost use Prim.Native.Nat.{_+_, _≤_};
 ghost use lib.Dec.{eqb};
-ghost use Rattle.arena.specs.Nodes.{F, T, elemAt, widthAt};
+ghost use lib.ListN.{length};
+ghost use Rattle.arena.specs.Nodes.{F, T, kindAt, elemAt, widthAt};
 ghost use Rattle.arena.specs.Cells.{used};
-ghost use Rattle.arena.specs.WellFormed.{isType, isTerm, IsArena};
-ghost use Rattle.arena.specs.Walks.{isLit};
+ghost use Rattle.arena.specs.WellFormed.{small, isType, isTerm, IsArena};
+ghost use Rattle.arena.specs.Walks.{isLit, setFree};
+ghost use Rattle.arena.specs.Lists.{all, evens, odds};
 ghost use Rattle.arena.specs.Values.{tbool, topt};
 ghost use Rattle.arena.specs.Meaning.{tyAt};
 ghost use Rattle.arena.specs.Did.{Did, termReply, typeReply};
-ghost use Rattle.factory.specs.Fit.{Typed, Alike, OfKind, Ready};
-ghost use Rattle.factory.specs.Makers.{boolAt, bitvecType, optionType, setType, recordType, bitvecLit, variable as variableOf, noneOf, someOf, app};
+ghost use Rattle.factory.specs.Fit.{Typed, Alike, OfKind, Options, Ready};
+ghost use Rattle.factory.specs.Makers.{boolAt, bitvecType, optionType, setType, recordType, bitvecLit, variable as variableOf, noneOf, someOf, setOf, recordOf, app};
 ghost use Rattle.factory.specs.Core.{notT, opposites as opposed, junction, andT, orT, implies as impliesT, eqSimplify, eqT, iteSimplify, iteOfSomes, iteT, uninterpreted as uninterpretedOf};
 ghost use Rattle.factory.specs.Bitvectors.{bothBv, bvnegT, bvappT, bvcmpT, bvnegoT, bvsoT, extendedTo, zeroExtendT};
-ghost use Rattle.factory.specs.SetSteps.{optionGet};
-ghost use Rattle.factory.specs.Helpers.{eqNone, isNoneIte, isNone, isSome, orSome, ifFalse, orNone, ifTrue, noneOr, guarded as guardedBy, ifSome};
+ghost use Rattle.factory.specs.SetSteps.{isSet, emptyAt, setMember, bothSets, setSubset, interOf, setInter, setIsEmpty, notEmpty, setIntersects, optionGet, recordGet};
+ghost use Rattle.factory.specs.Helpers.{eqNone, isNoneIte, isNone, isSome, orSome, ifFalse, orNone, ifTrue, noneOr, guarded as guardedBy, ifSome, orIsNone, anyNone, ifAllSome};
+
+pub mod runs;
 
 // Where Bool, false and true stand in every arena.
 const BOOL: TypePos = TypePos(0);
@@ -74,6 +86,22 @@ pub fn option_type(cells: &mut [u64], cursor: Cursor, ty: TypePos) -> TypeStep
     cursor.type_node(cells, 3, 0, &of)
 }
 
+pub fn set_type(cells: &mut [u64], cursor: Cursor, ty: TypePos) -> TypeStep
+    requires { ⌜ IsArena (now cells) (cursor .mark) ⌝ }
+    ensures { λ r. ⌜ Did (λ a. setType a (ty .0)) (now (cells .entry)) (cursor .mark) (typeReply r) (now (cells .exit)) ⌝ }
+{
+    let of = [ty.0];
+    cursor.type_node(cells, 4, 0, &of)
+}
+
+// Attribute and type of each field in turn.
+pub fn record_type(cells: &mut [u64], cursor: Cursor, fields: &[u64]) -> TypeStep
+    requires { ⌜ IsArena (now cells) (cursor .mark) ⌝ }
+    ensures { λ r. ⌜ Did (λ a. recordType a (now (fields .entry))) (now (cells .entry)) (cursor .mark) (typeReply r) (now (cells .exit)) ⌝ }
+{
+    cursor.type_node(cells, 5, 0, fields)
+}
+
 // ---------- Checked term constructors ----------
 
 pub fn none_of(cells: &mut [u64], cursor: Cursor, ty: TypePos) -> TermStep
@@ -92,6 +120,31 @@ pub fn some_of(cells: &mut [u64], cursor: Cursor, t: TermPos) -> TermStep
     let of = [type_of(cells, cursor.mark, t).0];
     let members = [t.0];
     cursor.typed_node(cells, 3, 0, &of, 19, 0, &members)
+}
+
+// Members by position, without duplicates.
+pub fn set_of(cells: &mut [u64], cursor: Cursor, ty: TypePos, terms: &[u64]) -> TermStep
+    requires { ⌜ Ready (λ a. isType a (ty .0) ≡ true × setFree a (ty .0) ≡ true) (now cells) (cursor .mark) ⌝ }
+    requires { ⌜ length (now terms) ≤ 256 ⌝ }
+    ensures { λ r. ⌜ Did (λ a. setOf a (ty .0) (now (terms .entry))) (now (cells .entry)) (cursor .mark) (termReply r) (now (cells .exit)) ⌝ }
+{
+    let of = [ty.0];
+    let mut run = [0u64; 256];
+    let n = sorted(terms, &mut run);
+    cursor.typed_node(cells, 4, 0, &of, 20, 0, &run[..n])
+}
+
+// Attribute and term of each field in turn; of equal attributes the last wins.
+pub fn record_of(cells: &mut [u64], cursor: Cursor, list: &[u64]) -> TermStep
+    requires { ⌜ Ready (λ a. all (isTerm a) (odds (now list)) ≡ true × all small (evens (now list)) ≡ true) (now cells) (cursor .mark) ⌝ }
+    requires { ⌜ length (now list) ≤ 128 ⌝ }
+    ensures { λ r. ⌜ Did (λ a. recordOf a (now (list .entry))) (now (cells .entry)) (cursor .mark) (termReply r) (now (cells .exit)) ⌝ }
+{
+    let mut run = [0u64; 128];
+    let n = fields(list, &mut run);
+    let mut types = [0u64; 128];
+    field_types(cells, cursor.mark, &run[..n], &mut types);
+    cursor.typed_node(cells, 5, 0, &types[..n], 21, 0, &run[..n])
 }
 
 // A bitvector literal of a Bitvec type.
@@ -227,7 +280,7 @@ pub fn implies(cells: &mut [u64], cursor: Cursor, t: TermPos, u: TermPos) -> Ter
 
 // Whether both are literals.
 fn both_literal(cells: &[u64], cursor: Cursor, t: TermPos, u: TermPos) -> bool
-    requires { ⌜ Ready (λ a. Alike a (t .0) (u .0)) (now cells) (cursor .mark) ⌝ }
+    requires { ⌜ Ready (λ a. isTerm a (t .0) ≡ true × isTerm a (u .0) ≡ true) (now cells) (cursor .mark) ⌝ }
     ensures { λ r. ⌜ r ≡ (isLit (used (now (cells .entry)) (cursor .mark)) (t .0) && isLit (used (now (cells .entry)) (cursor .mark)) (u .0)) ⌝ }
 {
     if is_literal(cells, cursor.mark, t.0 as usize) {
@@ -469,6 +522,142 @@ pub fn zero_extend(cells: &mut [u64], cursor: Cursor, n: u64, t: TermPos) -> Ter
     }
 }
 
+// ---------- CVC theory of finite sets (`FS`) ----------
+
+// Whether it is the literal empty set.
+fn is_empty_set(cells: &[u64], cursor: Cursor, t: TermPos) -> bool
+    requires { ⌜ Ready (λ a. isTerm a (t .0) ≡ true) (now cells) (cursor .mark) ⌝ }
+    ensures { λ r. ⌜ r ≡ emptyAt (used (now (cells .entry)) (cursor .mark)) (t .0) ⌝ }
+{
+    if kind_of(cells, cursor.mark, t.0) == 20 {
+        return members_of(cells, cursor.mark, t.0).len() == 0;
+    }
+    false
+}
+
+// Whether s is a set, and both are literals.
+fn literal_in(cells: &[u64], cursor: Cursor, t: TermPos, s: TermPos) -> bool
+    requires { ⌜ Ready (λ a. isTerm a (t .0) ≡ true × isTerm a (s .0) ≡ true) (now cells) (cursor .mark) ⌝ }
+    ensures { λ r. ⌜ r ≡ (isSet (used (now (cells .entry)) (cursor .mark)) (s .0) && (isLit (used (now (cells .entry)) (cursor .mark)) (t .0) && isLit (used (now (cells .entry)) (cursor .mark)) (s .0))) ⌝ }
+{
+    if kind_of(cells, cursor.mark, s.0) == 20 {
+        return both_literal(cells, cursor, t, s);
+    }
+    false
+}
+
+pub fn set_member(cells: &mut [u64], cursor: Cursor, t: TermPos, s: TermPos) -> TermStep
+    requires { ⌜ Ready (λ a. isTerm a (t .0) ≡ true × isTerm a (s .0) ≡ true) (now cells) (cursor .mark) ⌝ }
+    ensures { λ r. ⌜ Did (λ a. setMember a (t .0) (s .0)) (now (cells .entry)) (cursor .mark) (termReply r) (now (cells .exit)) ⌝ }
+{
+    if is_empty_set(cells, cursor, s) {
+        return TermStep::At(cursor, FALSE);
+    }
+    if literal_in(cells, cursor, t, s) {
+        let members = members_of(cells, cursor.mark, s.0);
+        return TermStep::At(cursor, bool_at(contains(members, t.0)));
+    }
+    app2(cells, cursor, 50, BOOL, t, s)
+}
+
+// Whether both are literal sets.
+fn both_sets(cells: &[u64], cursor: Cursor, s: TermPos, t: TermPos) -> bool
+    requires { ⌜ Ready (λ a. isTerm a (s .0) ≡ true × isTerm a (t .0) ≡ true) (now cells) (cursor .mark) ⌝ }
+    ensures { λ r. ⌜ r ≡ bothSets (used (now (cells .entry)) (cursor .mark)) (s .0) (t .0) ⌝ }
+{
+    if kind_of(cells, cursor.mark, s.0) == 20 {
+        return literal_in(cells, cursor, s, t);
+    }
+    false
+}
+
+pub fn set_subset(cells: &mut [u64], cursor: Cursor, s: TermPos, t: TermPos) -> TermStep
+    requires { ⌜ Ready (λ a. isTerm a (s .0) ≡ true × isTerm a (t .0) ≡ true) (now cells) (cursor .mark) ⌝ }
+    ensures { λ r. ⌜ Did (λ a. setSubset a (s .0) (t .0)) (now (cells .entry)) (cursor .mark) (termReply r) (now (cells .exit)) ⌝ }
+{
+    if s.0 == t.0 {
+        return TermStep::At(cursor, TRUE);
+    }
+    if is_empty_set(cells, cursor, s) {
+        return TermStep::At(cursor, TRUE);
+    }
+    if both_sets(cells, cursor, s, t) {
+        let left = members_of(cells, cursor.mark, s.0);
+        let right = members_of(cells, cursor.mark, t.0);
+        return TermStep::At(cursor, bool_at(contains_all(right, left)));
+    }
+    app2(cells, cursor, 51, BOOL, s, t)
+}
+
+// The literal set of the members that both have.
+fn inter_of(cells: &mut [u64], cursor: Cursor, s: TermPos, t: TermPos) -> TermStep
+    requires { ⌜ Ready (λ a. kindAt a (s .0) ≡ 20 × isTerm a (t .0) ≡ true) (now cells) (cursor .mark) ⌝ }
+    ensures { λ r. ⌜ Did (λ a. interOf a (s .0) (t .0)) (now (cells .entry)) (cursor .mark) (termReply r) (now (cells .exit)) ⌝ }
+{
+    let ty = type_of(cells, cursor.mark, s);
+    let left = members_of(cells, cursor.mark, s.0);
+    let right = members_of(cells, cursor.mark, t.0);
+    let mut run = [0u64; 256];
+    let n = common(left, right, &mut run);
+    cursor.term_node(cells, 20, ty, 0, &run[..n])
+}
+
+pub fn set_inter(cells: &mut [u64], cursor: Cursor, s: TermPos, t: TermPos) -> TermStep
+    requires { ⌜ Ready (λ a. isTerm a (s .0) ≡ true × isTerm a (t .0) ≡ true) (now cells) (cursor .mark) ⌝ }
+    ensures { λ r. ⌜ Did (λ a. setInter a (s .0) (t .0)) (now (cells .entry)) (cursor .mark) (termReply r) (now (cells .exit)) ⌝ }
+{
+    if s.0 == t.0 {
+        return TermStep::At(cursor, s);
+    }
+    if is_empty_set(cells, cursor, s) {
+        return TermStep::At(cursor, s);
+    }
+    if is_empty_set(cells, cursor, t) {
+        return TermStep::At(cursor, t);
+    }
+    if both_sets(cells, cursor, s, t) {
+        return inter_of(cells, cursor, s, t);
+    }
+    let ty = type_of(cells, cursor.mark, s);
+    app2(cells, cursor, 52, ty, s, t)
+}
+
+pub fn set_is_empty(cells: &mut [u64], cursor: Cursor, s: TermPos) -> TermStep
+    requires { ⌜ Ready (λ a. OfKind a 4 (s .0)) (now cells) (cursor .mark) ⌝ }
+    ensures { λ r. ⌜ Did (λ a. setIsEmpty a (s .0)) (now (cells .entry)) (cursor .mark) (termReply r) (now (cells .exit)) ⌝ }
+{
+    if kind_of(cells, cursor.mark, s.0) == 20 {
+        let empty = members_of(cells, cursor.mark, s.0).len() == 0;
+        return TermStep::At(cursor, bool_at(empty));
+    }
+    let ty = type_of(cells, cursor.mark, s);
+    let none = [0u64; 1];
+    match cursor.term_node(cells, 20, ty, 0, &none[..0]) {
+        TermStep::At(next, e) => eq(cells, next, s, e),
+        TermStep::Full => TermStep::Full,
+    }
+}
+
+fn not_empty(cells: &mut [u64], cursor: Cursor, s: TermPos) -> TermStep
+    requires { ⌜ Ready (λ a. OfKind a 4 (s .0)) (now cells) (cursor .mark) ⌝ }
+    ensures { λ r. ⌜ Did (λ a. notEmpty a (s .0)) (now (cells .entry)) (cursor .mark) (termReply r) (now (cells .exit)) ⌝ }
+{
+    match set_is_empty(cells, cursor, s) {
+        TermStep::At(next, e) => not(cells, next, e),
+        TermStep::Full => TermStep::Full,
+    }
+}
+
+pub fn set_intersects(cells: &mut [u64], cursor: Cursor, s: TermPos, t: TermPos) -> TermStep
+    requires { ⌜ Ready (λ a. OfKind a 4 (s .0) × Alike a (s .0) (t .0)) (now cells) (cursor .mark) ⌝ }
+    ensures { λ r. ⌜ Did (λ a. setIntersects a (s .0) (t .0)) (now (cells .entry)) (cursor .mark) (termReply r) (now (cells .exit)) ⌝ }
+{
+    match set_inter(cells, cursor, s, t) {
+        TermStep::At(next, i) => not_empty(cells, next, i),
+        TermStep::Full => TermStep::Full,
+    }
+}
+
 // ---------- Core ADT operators with a trusted mapping to SMT ----------
 
 // The element type of an option or a set.
@@ -489,6 +678,21 @@ pub fn option_get(cells: &mut [u64], cursor: Cursor, t: TermPos) -> TermStep
     }
     let ty = elem_of(cells, cursor, t);
     app1(cells, cursor, 55, ty, t)
+}
+
+// The attribute k, which the record's type has.
+pub fn record_get(cells: &mut [u64], cursor: Cursor, k: u64, t: TermPos) -> TermStep
+    requires { ⌜ Ready (λ a. isTerm a (t .0) ≡ true) (now cells) (cursor .mark) ⌝ }
+    ensures { λ r. ⌜ Did (λ a. recordGet a k (t .0)) (now (cells .entry)) (cursor .mark) (termReply r) (now (cells .exit)) ⌝ }
+{
+    if kind_of(cells, cursor.mark, t.0) == 21 {
+        let members = members_of(cells, cursor.mark, t.0);
+        return TermStep::At(cursor, TermPos(field_or_0(members, k)));
+    }
+    let of = type_of(cells, cursor.mark, t);
+    let ty = TypePos(field_or_0(members_of(cells, cursor.mark, of.0), k));
+    let members = [t.0];
+    cursor.term_node(cells, 156, ty, k, &members)
 }
 
 // ---------- Helper functions for constructing compound terms ----------
@@ -635,6 +839,49 @@ pub fn if_some(cells: &mut [u64], cursor: Cursor, g: TermPos, t: TermPos) -> Ter
 {
     match is_none(cells, cursor, g) {
         TermStep::At(next, n) => guarded(cells, next, n, t),
+        TermStep::Full => TermStep::Full,
+    }
+}
+
+// One option's `is_none`, before its `or`.
+fn or_is_none(cells: &mut [u64], cursor: Cursor, g: TermPos, acc: TermPos) -> TermStep
+    requires { ⌜ Ready (λ a. OfKind a 3 (g .0) × Typed a tbool (acc .0)) (now cells) (cursor .mark) ⌝ }
+    ensures { λ r. ⌜ Did (λ a. orIsNone a (g .0) (acc .0)) (now (cells .entry)) (cursor .mark) (termReply r) (now (cells .exit)) ⌝ }
+{
+    match is_none(cells, cursor, g) {
+        TermStep::At(next, n) => or(cells, next, n, acc),
+        TermStep::Full => TermStep::Full,
+    }
+}
+
+pub fn any_none(cells: &mut [u64], cursor: Cursor, gs: &[u64]) -> TermStep
+    requires { ⌜ Ready (λ a. Options a (now gs)) (now cells) (cursor .mark) ⌝ }
+    ensures { λ r. ⌜ Did (λ a. anyNone a (now (gs .entry))) (now (cells .entry)) (cursor .mark) (termReply r) (now (cells .exit)) ⌝ }
+{
+    let mut mark = cursor.mark;
+    let mut acc = FALSE.0;
+    let mut i: usize = 0;
+    while i < gs.len() {
+        match or_is_none(cells, Cursor { mark }, TermPos(gs[i]), TermPos(acc)) {
+            TermStep::At(next, p) => {
+                mark = next.mark;
+                acc = p.0;
+            }
+            TermStep::Full => {
+                return TermStep::Full;
+            }
+        }
+        i += 1;
+    }
+    TermStep::At(Cursor { mark }, TermPos(acc))
+}
+
+pub fn if_all_some(cells: &mut [u64], cursor: Cursor, gs: &[u64], t: TermPos) -> TermStep
+    requires { ⌜ Ready (λ a. Options a (now gs) × isTerm a (t .0) ≡ true) (now cells) (cursor .mark) ⌝ }
+    ensures { λ r. ⌜ Did (λ a. ifAllSome a (now (gs .entry)) (t .0)) (now (cells .entry)) (cursor .mark) (termReply r) (now (cells .exit)) ⌝ }
+{
+    match any_none(cells, cursor, gs) {
+        TermStep::At(next, g) => guarded(cells, next, g, t),
         TermStep::Full => TermStep::Full,
     }
 }

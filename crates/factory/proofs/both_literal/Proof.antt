@@ -4,10 +4,10 @@ use Rattle.factory.proofs.both_literal.Statement.{statement}
 use Rattle.factory.proofs.both_literal.Tie as tie
 
 is-literal-requires : tie.Need-is-literal-requires
-is-literal-requires c κs = (c .before .pre .arena .below, c .before .pre .fit .0 .isterm)
+is-literal-requires c κs = (c .before .pre .arena .below, c .before .pre .fit .0)
 
 is-literal-requires-2 : tie.Need-is-literal-requires-2
-is-literal-requires-2 c κs = (c .before .before .before .pre .arena .below, c .before .before .before .pre .fit .1 .isterm)
+is-literal-requires-2 c κs = (c .before .before .before .pre .arena .below, c .before .before .before .pre .fit .1)
 
 returns : tie.Need-returns
 returns c = rw (sym (c .before .before .is-literal .ensures) ∙ c .before .if1 .taken) (c .is-literal2 .ensures)

@@ -16,7 +16,7 @@ returns c =
     picked (did-here (c .before .before .before .before .pre .arena) 8) (rw (eq-eqb _ _ (c .if1 .taken)))
 
 both-literal-requires : tie.Need-both-literal-requires
-both-literal-requires c κs = search needs
+both-literal-requires c κs = record { arena = c .before .before .before .before .before .pre .arena; fit = (c .before .before .before .before .before .pre .fit .0 .isterm, c .before .before .before .before .before .pre .fit .1 .isterm) }
 
 same-length : tie.Need-same-length
 same-length c = search needs
