@@ -19,7 +19,7 @@ use Rattle.factory.specs.Core.{junction, iteOfSomes, notT, opposites, andT, orT
 use Rattle.factory.specs.Bitvectors.{bvnegT, bvappT, bvcmpT, bvnegoT, bvsoT, extendedTo, zeroExtendT}
 use Rattle.factory.specs.SetSteps.{isNil, setMember, setSubset, setInter, setIsEmpty, notEmpty, setIntersects, optionGet, recordGet}
 use Rattle.factory.specs.Helpers.{orSome, orNone, eqNone, isNoneIte, isNone, isSome, ifFalse, ifTrue, noneOr, guarded, ifSome, orIsNone, anyNoneOn, anyNone, ifAllSome}
-use Rattle.compiler.specs.Compiler.{compiledNot, negUnless, compiledNeg, compiledIsEmpty, getFields, ifAllGiven, compiledRecord, hasSome, compiledHasAttr, optioned, compiledGetAttr}
+use Rattle.compiler.specs.Compiler.{compiledNot, negUnless, compiledNeg, compiledIsEmpty, gotten, inner, ifAllGiven, recordIfAll, compiledRecord, hasSome, compiledHasAttr, optioned, compiledGetAttr}
 use Rattle.instruction.specs.Instruction.{Instr}
 use Rattle.call.specs.Table.{table, rowOf, known, row}
 use Rattle.call.specs.Call.{Reply, ok, refused, Done, countOk, tooMany, sortOk, sortsOk, operandsOk, firstOf, tests, refusal, fitted, call, callOn}
@@ -103,5 +103,5 @@ examples =
     ∷ []
 
 examples-hold : holds examples ≡ true
-unfolding extendedTo notEmpty noneOr orIsNone negUnless ifAllGiven hasSome optioned known row refusal junction iteOfSomes orSome orNone holds runs sameReply examples nat2bv extract concat allOnes bvnot bvneg bvadd bvmul bvudiv bvurem bvshl bvlshr bvult top byTops bvsub bvsdiv bvsrem bvabs bvsmodOf bvsmod bvule byTop bvslt bvsle zeroExtend bv2int outside bvnego bvsaddo bvssubo bvsmulo bvappOf bvcmpOf bvsoOf every all any sameList evens odds field fieldD holdsField rising insert sorted putField fieldsOf mark over nodeAt positions keys fieldTypes same find putFound put cells parseOn parse used nodeHere ruled walked litRule freeRule fieldRun placed typeTest makerTest coreTest bvTest dataTest kindTest goodNode isFresh startsFresh goodNodes absent distinct wellFormed filled clear formed noneOf someOf setOf recordOf notT opposites andT orT implies eqSimplify eqT iteSimplify iteT uninterpreted bvnegT bvappT bvcmpT bvnegoT bvsoT zeroExtendT isNil setMember setSubset common setInter setIsEmpty setIntersects optionGet recordGet eqNone isNoneIte isNone isSome ifFalse ifTrue guarded ifSome anyNoneOn anyNone ifAllSome compiledNot compiledNeg compiledIsEmpty getFields compiledRecord compiledHasAttr compiledGetAttr table rowOf countOk tooMany sortOk sortsOk operandsOk firstOf tests fitted call callOn
+unfolding extendedTo notEmpty noneOr orIsNone negUnless ifAllGiven hasSome optioned known row refusal junction iteOfSomes orSome orNone holds runs sameReply examples nat2bv extract concat allOnes bvnot bvneg bvadd bvmul bvudiv bvurem bvshl bvlshr bvult top byTops bvsub bvsdiv bvsrem bvabs bvsmodOf bvsmod bvule byTop bvslt bvsle zeroExtend bv2int outside bvnego bvsaddo bvssubo bvsmulo bvappOf bvcmpOf bvsoOf every all any sameList evens odds field fieldD holdsField rising insert sorted putField fieldsOf mark over nodeAt positions keys fieldTypes same find putFound put cells parseOn parse used nodeHere ruled walked litRule freeRule fieldRun placed typeTest makerTest coreTest bvTest dataTest kindTest goodNode isFresh startsFresh goodNodes absent distinct wellFormed filled clear formed noneOf someOf setOf recordOf notT opposites andT orT implies eqSimplify eqT iteSimplify iteT uninterpreted bvnegT bvappT bvcmpT bvnegoT bvsoT zeroExtendT isNil setMember setSubset common setInter setIsEmpty setIntersects optionGet recordGet eqNone isNoneIte isNone isSome ifFalse ifTrue guarded ifSome anyNoneOn anyNone ifAllSome compiledNot compiledNeg compiledIsEmpty gotten inner recordIfAll compiledRecord compiledHasAttr compiledGetAttr table rowOf countOk tooMany sortOk sortsOk operandsOk firstOf tests fitted call callOn
 examples-hold = refl

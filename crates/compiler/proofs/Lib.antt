@@ -2,3 +2,5 @@
 pub mod Unary
 pub mod Attributes
 pub mod Record
+pub mod Optional
+pub mod Gather

@@ -23,6 +23,7 @@ use Rattle.arena.proofs.Whole.{kind-ext}
 use Rattle.arena.proofs.Fits.{opt-fits}
 use Rattle.arena.proofs.Sound.{fit-at}
 use Rattle.arena.proofs.Known.{none-means, zeroI, zeroG}
+use Rattle.factory.specs.Fit.{Options}
 use Rattle.factory.specs.Makers.{someOf, recordOf}
 use Rattle.factory.specs.SetSteps.{optionGet}
 use Rattle.factory.specs.Meanings.{means15, means55, isNoneV, anyNoneV, isOpt, optional, lifted}
@@ -31,19 +32,19 @@ use Rattle.factory.proofs.Lists.{means-old, lits-old, terms-old}
 use Rattle.factory.specs.Meanings.{recordTy}
 use Rattle.factory.proofs.Listed.{record-law}
 use Rattle.factory.proofs.Options.{get-law}
-use Rattle.factory.proofs.Guards.{options, allSome-law}
-use Rattle.compiler.specs.Compiler.{getFields, ifAllGiven, compiledRecord}
+use Rattle.factory.proofs.Guards.{options, options-ext, allSome-law}
+use Rattle.compiler.specs.Compiler.{gotten, inner, ifAllGiven, recordIfAll, compiledRecord}
 use Rattle.compiler.specs.Meanings.{innerV, innerTy, means73}
 use Rattle.compiler.proofs.Unary.{some-after}
 
 -- ---- two runs of fields with the same attributes, f saying of the one what g says of the other
 
-data Alike {X : Type 0} (f g : ℕ → X) : List ℕ → List ℕ → Type 0 where
+pub data Alike {X : Type 0} (f g : ℕ → X) : List ℕ → List ℕ → Type 0 where
   nil : Alike f g [] []
   pair : {x y z : ℕ} {r q : List ℕ} → f y ≡ g z → Alike f g r q → Alike f g (x ∷ y ∷ r) (x ∷ z ∷ q)
 
 module _ {X : Type 0} {f g : ℕ → X} where
-  alike-keys : {r q : List ℕ} → Alike f g r q → evens r ≡ evens q
+  pub alike-keys : {r q : List ℕ} → Alike f g r q → evens r ≡ evens q
   unfolding evens
   alike-keys nil = refl
   alike-keys (pair {x = x} e l) = ap (λ (r : List ℕ). x ∷ r) (alike-keys l)
@@ -96,14 +97,14 @@ module _ {a : Nodes} (w : WF a) where
   some-tail x r s I G = or-false-r (isNoneV (meaning I a x)) _ (s I G)
 
   -- the fields `new` in the arena c hold option_get of those in r
-  record Got (b : Nodes) (r : List ℕ) (c : Nodes) (new : List ℕ) : Type 0 where
-    ext : Ext b c
-    wf : WF c
-    count : length new ≡ length r
-    terms : all (isTerm c) (odds new) ≡ true
-    types : Alike (tyAt c) (λ x. innerTy (tyAt a x)) new r
-    means : (I : Interp) → Good I → Alike (meaning I c) (got I) new r
-    lits : all (isLit a) (odds r) ≡ true → Somes (odds r) → all (isLit c) (odds new) ≡ true
+  pub record Got (b : Nodes) (r : List ℕ) (c : Nodes) (new : List ℕ) : Type 0 where
+    pub ext : Ext b c
+    pub wf : WF c
+    pub count : length new ≡ length r
+    pub terms : all (isTerm c) (odds new) ≡ true
+    pub types : Alike (tyAt c) (λ x. innerTy (tyAt a x)) new r
+    pub means : (I : Interp) → Good I → Alike (meaning I c) (got I) new r
+    pub lits : all (isLit a) (odds r) ≡ true → Somes (odds r) → all (isLit c) (odds new) ≡ true
 
   -- one more field, whose option_get is built first
   got-pair : {b : Nodes} → Ext a b → WF b → (x y : ℕ) (r : List ℕ) → Typed a (topt (innerTy (tyAt a y))) y → {c : Nodes} {new : List ℕ}
@@ -127,40 +128,15 @@ module _ {a : Nodes} (w : WF a) where
             (g .lits (z' .1) (some-tail y (odds r) s));
       }
 
-  record GotAll (b : Nodes) (done r : List ℕ) : Type 0 where
-    arena : Nodes
-    new : List ℕ
-    all-got : Got b r arena new
-    same : (k : Nodes → List ℕ → Out) → getFields b done r k ≡ k arena (done ++ new)
-
-  got-more : {b : Nodes} → Ext a b → WF b → (x y : ℕ) (done r : List ℕ) → Typed a (topt (innerTy (tyAt a y))) y
-      → GotAll (optionGet b y .arena) (done ++ (x ∷ optionGet b y .at ∷ [])) r → GotAll b done (x ∷ y ∷ r)
-  unfolding getFields
-  got-more {b} e wb x y done r m g =
-      record {
-        arena = g .arena;
-        new = x ∷ optionGet b y .at ∷ g .new;
-        all-got = got-pair e wb x y r m (g .all-got);
-        same = λ k. g .same k ∙ ap (k (g .arena)) (append-assoc done (x ∷ optionGet b y .at ∷ []) (g .new));
-      }
-
-  got-all : (r : List ℕ) → length r % 2 ≡ 0 → all (isTerm a) (odds r) ≡ true → all (λ x. sortIs a x 3) (odds r) ≡ true
-      → {b : Nodes} → Ext a b → WF b → (done : List ℕ) → GotAll b done r
-  unfolding getFields odds
-  got-all [] h p q {b} e wb done =
-      record {
-        arena = b;
-        new = [];
-        all-got = record { ext = ext-same; wf = wb; count = refl; terms = all0 (isTerm b); types = nil; means = λ I G. nil; lits = λ z s. all0 (isLit b) };
-        same = λ k. ap (k b) (sym (append-nil done));
-      }
-  got-all (x ∷ []) h p q e wb done = absurd (omega arith)
-  got-all (x ∷ y ∷ r) h p q {b} e wb done =
-      let p' = all-at (isTerm a) y (odds r) p in
-      let q' = all-at (λ x. sortIs a x 3) y (odds r) q in
-      let m = option y (p' .0) (q' .0) in
+  pub got-all : (r : List ℕ) → length r % 2 ≡ 0 → Options a (odds r) → {b : Nodes} → Ext a b → WF b → Got b r (gotten b r) (inner b r)
+  unfolding gotten inner odds
+  got-all [] h o {b} e wb =
+      record { ext = ext-same; wf = wb; count = refl; terms = all0 (isTerm b); types = nil; means = λ I G. nil; lits = λ z s. all0 (isLit b) }
+  got-all (x ∷ []) h o e wb = absurd (omega arith)
+  got-all (x ∷ y ∷ r) h o e wb =
+      let m = option y (o .0 .isterm) (eq-eqb _ _ (o .0 .sort)) in
       let l = get-law wb y (typed-ext w e m) in
-      got-more e wb x y done r m (got-all r (omega arith) (p' .1) (q' .1) (ext-trans e (l .ext)) (l .wf) (done ++ (x ∷ optionGet b y .at ∷ [])))
+      got-pair e wb x y r m (got-all r (omega arith) (o .1) (ext-trans e (l .ext)) (l .wf))
 
   -- where none is none, option_get means the inner values
   got-inner : (I : Interp) → Good I → (r : List ℕ) → all (isTerm a) r ≡ true → all (λ x. sortIs a x 3) r ≡ true → anyNoneV (map (meaning I a) r) ≡ false
@@ -177,36 +153,30 @@ module _ {a : Nodes} (w : WF a) where
       go (inl e) = t≢f (sym (ap isNoneV e) ∙ or-false-l _ _ s)
       go (inr e) = rw (e .1)
 
-sorts-old : {a b : Nodes} → Ext a b → (r : List ℕ) → all (isTerm a) r ≡ true → all (λ x. sortIs a x 3) r ≡ true → all (λ x. sortIs b x 3) r ≡ true
-sorts-old {a} {b} e r p q =
-    all-imp2 (isTerm a) (λ x. sortIs a x 3) (λ x. sortIs b x 3)
-    (λ x i j. eq-eqb (kindAt b (typeAt b x)) 3 (ap (kindAt b) (tm-ext e (record { isterm = i; typed = refl }) .typed) ∙ kind-ext e (typeAt a x) 3 (eqb-true _ _ j) (omega arith))) r p q
-
 -- ---- 73 record
 
 pub compiledRecord-law : {a : Nodes} → WF a → (ats : List ℕ) → length ats % 2 ≡ 0 → length ats ≤ 128 → all small (evens ats) ≡ true → all (isTerm a) (odds ats) ≡ true
     → all (λ x. sortIs a x 3) (odds ats) ≡ true
     → Law a (all (isLit a) (odds ats) ≡ true) (topt (recordTy (λ x. innerTy (tyAt a x)) ats)) (λ I. means73 (evens ats) (map (meaning I a) (odds ats))) (compiledRecord a ats)
-unfolding compiledRecord ifAllGiven optional lifted isOpt
+unfolding compiledRecord recordIfAll ifAllGiven optional lifted isOpt
 compiledRecord-law {a} w ats even few s p q =
-    let found = got-all w ats even p q ext-same w [] in
-    let g = found .all-got in
-    let b = found .arena in
-    let inner = found .new in
-    let keys : evens inner ≡ evens ats = alike-keys (g .types) in
+    let gs = options a (odds ats) p q in
+    let g = got-all w ats even gs ext-same w in
+    let b = gotten a ats in
+    let new = inner a ats in
+    let keys : evens new ≡ evens ats = alike-keys (g .types) in
     let many = g .count in
-    let r = some-after (record-law (g .wf) inner (omega arith) (ap (all small) keys ∙ s) (g .terms)) in
-    let o = recordOf b inner ⨟ someOf in
+    let r = some-after (record-law (g .wf) new (omega arith) (ap (all small) keys ∙ s) (g .terms)) in
+    let o = recordOf b new ⨟ someOf in
     let e = ext-trans (g .ext) (r .ext) in
     let f = alike-fields nil (g .types) in
-    let y : recordTy (tyAt b) inner ≡ recordTy (λ x. innerTy (tyAt a x)) ats = ap₂ (λ (ks : List ℕ) (ts : List Ty). trec (recTy ks ts)) (alike-keys f) (alike-holds f) in
-    subst (λ (z : Out). Law a (all (isLit a) (odds ats) ≡ true) (topt (recordTy (λ x. innerTy (tyAt a x)) ats)) (λ I. means73 (evens ats) (map (meaning I a) (odds ats))) z) (sym (found .same _))
-    (retyped (ap topt y) (onward e
-    (reads (allSome-law (r .wf) (odds ats) (options _ (odds ats) (terms-old e (odds ats) p) (sorts-old e (odds ats) p q)) (o .at) (r .typed))
+    let y : recordTy (tyAt b) new ≡ recordTy (λ x. innerTy (tyAt a x)) ats = ap₂ (λ (ks : List ℕ) (ts : List Ty). trec (recTy ks ts)) (alike-keys f) (alike-holds f) in
+    retyped (ap topt y) (onward e
+    (reads (allSome-law (r .wf) (odds ats) (options-ext w e (r .wf) (odds ats) gs) (o .at) (r .typed))
     (λ l. (lits-old e (odds ats) p l, (λ n. r .lit (g .lits l (λ I G. ap anyNoneV (sym (means-old e I (odds ats) p)) ∙ n I G)))))
     (λ I G. ap₂ (λ (vs : List Value) (v : Value). cond (anyNoneV vs) vnone v) (means-old e I (odds ats) p)
     (r .means I G ∙ ap₂ (λ (ks : List ℕ) (vs : List Value). vsome (means15 ks vs)) keys (alike-holds (g .means I G)))
-    ∙ by-none I G (anyNoneV (map (meaning I a) (odds ats))) refl))))
+    ∙ by-none I G (anyNoneV (map (meaning I a) (odds ats))) refl)))
   where
     by-none : (I : Interp) → Good I → (b : Bool) → anyNoneV (map (meaning I a) (odds ats)) ≡ b
         → cond b vnone (vsome (means15 (evens ats) (map (got w I) (odds ats)))) ≡ cond b vnone (vsome (means15 (evens ats) (map innerV (map (meaning I a) (odds ats)))))

@@ -1,8 +1,8 @@
 -- compiler.rs for records: `compile_app1`, `compile_record`, `compile_has_attr`, `compile_get_attr`. Its terms are unwrapped already.
 use Prim.Native.Nat.{ℕ}
-use mathlib.Core.Bool.{Bool, cond}
+use mathlib.Core.Bool.{Bool, true, false, cond}
 use mathlib.Core.Option.{Option, none, some}
-use mathlib.Core.List.{List, [], _∷_, _++_}
+use mathlib.Core.List.{List, [], _∷_}
 use Rattle.arena.specs.Lists.{odds, field, fieldD}
 use Rattle.arena.specs.Nodes.{F, T, Nodes, typeAt, memAt, Out, out, _⨟_}
 use Rattle.factory.specs.Makers.{someOf, recordOf}
@@ -29,24 +29,37 @@ compiledIsEmpty a t = setIsEmpty a t ⨟ someOf
 
 -- ---- compile_record
 
--- option_get of every listed field, also of one that a later field replaces
-unfoldable pub getFields : Nodes → List ℕ → List ℕ → (Nodes → List ℕ → Out) → Out
-getFields a done [] k = k a done
-getFields a done (x ∷ []) k = k a done
-getFields a done (x ∷ y ∷ r) k = let o = optionGet a y in getFields (o .arena) (done ++ (x ∷ o .at ∷ [])) r k
+-- option_get of every listed field, also of one that a later field replaces: the arena afterwards, and the fields with the inner terms
+unfoldable pub gotten : Nodes → List ℕ → Nodes
+gotten a [] = a
+gotten a (x ∷ []) = a
+gotten a (x ∷ y ∷ r) = gotten (optionGet a y .arena) r
+
+unfoldable pub inner : Nodes → List ℕ → List ℕ
+inner a [] = []
+inner a (x ∷ []) = []
+inner a (x ∷ y ∷ r) = let o = optionGet a y in x ∷ o .at ∷ inner (o .arena) r
 
 -- Some of the record r, if all listed options are
 unfoldable pub ifAllGiven : Nodes → List ℕ → ℕ → Out
 ifAllGiven a gs r = someOf a r ⨟ λ b s. ifAllSome b gs s
 
+-- the record of the fields ats
+unfoldable pub recordIfAll : Nodes → List ℕ → List ℕ → Out
+recordIfAll a gs ats = recordOf a ats ⨟ λ b r. ifAllGiven b gs r
+
 unfoldable pub compiledRecord : Nodes → List ℕ → Out
-compiledRecord a ats = getFields a [] ats (λ b inner. recordOf b inner ⨟ λ c r. ifAllGiven c (odds ats) r)
+compiledRecord a ats = recordIfAll (gotten a ats) (odds ats) (inner a ats)
 
 -- ---- compile_has_attr and compile_get_attr
 
 -- the field types of the record t
 abbrev pub fieldsAt : Nodes → ℕ → List ℕ
 fieldsAt a t = memAt a (typeAt a t)
+
+-- the attribute k is among the fields
+unfoldable pub hasField : List ℕ → ℕ → Bool
+hasField fs k = elim (field fs k) [ none ↦ false | some y ↦ true ]
 
 -- an optional field is there if it is some
 unfoldable pub hasSome : Nodes → ℕ → Out

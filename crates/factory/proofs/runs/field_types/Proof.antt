@@ -70,17 +70,22 @@ loop-less : tie.Need-loop-less Inv-loop μ-loop
 loop-less c = search needs
 
 loop-again : tie.Need-loop-again Inv-loop μ-loop
-loop-again c = 
+loop-again c =
     let l = c .before .before .before .before .loop in
-    let k : l .i + 1 < length (l .types) = let p = c .before .before .before .before .before .before .before .before .pre .1 .1 .1 in let t = c .before .before .before .loop-test .taken in let e = l .inv .2 in omega arith in
-    (omega arith, omega arith, length-set (set (l .types) (l .i) (getD (c .before .before .before .before .before .before .before .before .args .run .now) (l .i) 0)) (l .i + 1) (c .type-of .result .0) ∙ length-set (l .types) (l .i) (getD (c .before .before .before .before .before .before .before .before .args .run .now) (l .i) 0) ∙ l .inv .2, odd-term (used (c .before .before .before .before .before .before .before .before .args .cells .now) (c .before .before .before .before .before .before .before .before .args .mark)) (c .before .before .before .before .before .before .before .before .args .run .now) (l .i) (c .before .before .before .loop-test .taken) (l .inv .3) .1,
-    l .inv .4 ∙ types-next (used (c .before .before .before .before .before .before .before .before .args .cells .now) (c .before .before .before .before .before .before .before .before .args .mark)) (c .before .before .before .before .before .before .before .before .args .run .now) (l .types) (l .i) _ (c .before .before .before .loop-test .taken) k (c .type-of .ensures), pair-back (l .types) (l .i) (getD (c .before .before .before .before .before .before .before .before .args .run .now) (l .i) 0) (c .type-of .result .0) (length (c .before .before .before .before .before .before .before .before .args .run .now)) (omega arith) ∙ l .inv .5)
+    let k : l .i + 1 < length (l .types) = let p = c .before .before .before .before .before .before .before .before .pre .1 .1 .1 in let t = c .before .before .before .loop-test .taken in let e = l .inv .2 in omega arith in (
+      omega arith,
+      omega arith,
+      length-set (set (l .types) (l .i) (getD (c .before .before .before .before .before .before .before .before .args .run .now) (l .i) 0)) (l .i + 1) (c .type-of .result .0) ∙ length-set (l .types) (l .i) (getD (c .before .before .before .before .before .before .before .before .args .run .now) (l .i) 0) ∙ l .inv .2,
+      odd-term (used (c .before .before .before .before .before .before .before .before .args .cells .now) (c .before .before .before .before .before .before .before .before .args .mark)) (c .before .before .before .before .before .before .before .before .args .run .now) (l .i) (c .before .before .before .loop-test .taken) (l .inv .3) .1,
+      l .inv .4 ∙ types-next (used (c .before .before .before .before .before .before .before .before .args .cells .now) (c .before .before .before .before .before .before .before .before .args .mark)) (c .before .before .before .before .before .before .before .before .args .run .now) (l .types) (l .i) _ (c .before .before .before .loop-test .taken) k (c .type-of .ensures),
+      pair-back (l .types) (l .i) (getD (c .before .before .before .before .before .before .before .before .args .run .now) (l .i) 0) (c .type-of .result .0) (length (c .before .before .before .before .before .before .before .before .args .run .now)) (omega arith) ∙ l .inv .5,
+    )
 
 same-length : tie.Need-same-length Inv-loop μ-loop
 same-length c = c .before .loop .inv .2
 
 returns : tie.Need-returns Inv-loop μ-loop
-returns c = 
+returns c =
     let l = c .before .loop in
     let e : l .i ≡ length (c .before .before .before .before .before .args .run .now) = let p = c .before .before .before .before .before .pre .1 .1 .0 in let h = l .inv in let t = c .loop-test .left in omega arith in
     types-held (c .before .before .before .before .before .args .run .now) e (l .inv .2) (c .before .before .before .before .before .pre .1 .1 .1) (l .inv .4 ∙ types-last (used (c .before .before .before .before .before .args .cells .now) (c .before .before .before .before .before .args .mark)) (c .before .before .before .before .before .args .run .now) (take (l .i) (l .types)) (l .i) (c .loop-test .left)) (l .inv .5)
