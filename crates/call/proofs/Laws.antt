@@ -26,7 +26,7 @@ use Rattle.factory.proofs.SetLaws.{member-law, isEmpty-law, subset-law, inter-l
 use Rattle.factory.proofs.Listed.{set-law, record-law}
 use Rattle.factory.proofs.Options.{get-law, isNone-law, isSome-law}
 use Rattle.factory.proofs.Records.{recordGet-law}
-use Rattle.factory.proofs.Guards.{ifFalse-law, ifTrue-law, ifSome-law, anyNone-law, ifAllSome-law}
+use Rattle.factory.proofs.Guards.{options, ifFalse-law, ifTrue-law, ifSome-law, anyNone-law, ifAllSome-law}
 use Rattle.compiler.proofs.Unary.{compiledNot-law, compiledNeg-law, compiledIsEmpty-law}
 use Rattle.compiler.proofs.Record.{compiledRecord-law}
 use Rattle.compiler.proofs.Attributes.{compiledHasAttr-law, compiledGetAttr-law}
@@ -167,10 +167,10 @@ laws =
     ▹ on-two refl (λ a w i h P.
     let t = two-terms a (i .operands) (P .sorts) in
     ifSome-law w (x i) (y i) (opt-of w (x i) (first-kind a (i .operands) 3 (t .0) (P .five))) (typed-self (y i) (t .1)))
-    ▹ on-run refl (λ a w i h P. anyNone-law w (i .operands) (run-terms a (i .operands) (P .sorts)) (all-options a (i .operands) (P .five)))
+    ▹ on-run refl (λ a w i h P. anyNone-law w (i .operands) (options a (i .operands) (run-terms a (i .operands) (P .sorts)) (all-options a (i .operands) (P .five))))
     ▹ on-term-run refl (λ a w i h P.
     let t = term-run a (i .operands) (P .sorts) in
-    ifAllSome-law w (rest (i .operands)) (t .1) (all-options a (rest (i .operands)) (P .five)) (x i) (typed-self (x i) (t .0)))
+    ifAllSome-law w (rest (i .operands)) (options a (rest (i .operands)) (t .1) (all-options a (rest (i .operands)) (P .five))) (x i) (typed-self (x i) (t .0)))
     -- compiled
     ▹ on-one refl (λ a w i h P. compiledNot-law w (x i) (one-bool a (i .operands) w (P .sorts) (P .five)))
     ▹ on-one refl (λ a w i h P.
