@@ -2,3 +2,4 @@
 pub mod Table
 pub mod Senses
 pub mod Call
+pub mod Forms
