@@ -6,15 +6,16 @@ use lib.ListN.{length, drop}
 use borrow.Author.Tests.{not-true, not-false}
 use Rattle.arena.specs.Lists.{all}
 use Rattle.arena.specs.Cells.{used}
+use Rattle.wellformed.specs.Decide.{heads}
 use Rattle.call.specs.Call.{sortOk}
 use Rattle.call.specs.Forms.{sort}
 use Rattle.call.proofs.Suits.{all-hit, all-miss, all-end}
-use Rattle.wellformed.specs.Decide.{heads}
 use Rattle.call.proofs.refusals.all_sorted.Statement.{statement}
 use Rattle.call.proofs.refusals.all_sorted.Tie as tie
 
 abbrev Inv-loop : tie.InvT-loop
-Inv-loop cells mark typed xs from step i₀ i = (all (sortOk (used cells mark) (sort typed)) (heads step (drop from xs)) ≡ all (sortOk (used cells mark) (sort typed)) (heads step (drop i xs))) × (i ≤ length xs + 1)
+Inv-loop cells mark typed xs from step i₀ i =
+    (all (sortOk (used cells mark) (sort typed)) (heads step (drop from xs)) ≡ all (sortOk (used cells mark) (sort typed)) (heads step (drop i xs))) × (i ≤ length xs + 1)
 
 abbrev μ-loop : tie.MeasureT-loop
 μ-loop cells mark typed xs from step i₀ i = length xs + 2 - i
@@ -44,7 +45,9 @@ loop-again : tie.Need-loop-again Inv-loop μ-loop
 loop-again c = (c .before .before .before .before .loop .inv .0 ∙ all-hit _ (c .before .before .before .before .loop .i) (sortOk (used (c .before .before .before .before .before .before .before .args .cells .now) (c .before .before .before .before .before .before .before .args .mark)) (sort (c .before .before .before .before .before .before .before .args .typed))) (c .before .before .before .before .before .before .before .args .step) (c .before .before .before .before .before .before .before .pre .1 .1 .0) (c .before .before .before .before .before .before .before .pre .1 .1 .1) (omega arith) (sym (c .before .sort-ok .ensures) ∙ not-false _ (c .if1 .left)), omega arith)
 
 returns-2 : tie.Need-returns-2 Inv-loop μ-loop
-returns-2 c = sym (c .before .loop .inv .0 ∙ all-end _ (c .before .loop .i) (sortOk (used (c .before .before .before .before .args .cells .now) (c .before .before .before .before .args .mark)) (sort (c .before .before .before .before .args .typed))) (c .before .before .before .before .args .step) (c .before .before .before .before .pre .1 .1 .0) (c .before .before .before .before .pre .1 .1 .1) (omega arith))
+returns-2 c =
+    let s = c .before .before .before .before in
+    sym (c .before .loop .inv .0 ∙ all-end _ (c .before .loop .i) (sortOk (used (s .args .cells .now) (s .args .mark)) (sort (s .args .typed))) (s .args .step) (s .pre .1 .1 .0) (s .pre .1 .1 .1) (omega arith))
 
 pub all-sorted-spec : {M : Type 1} → statement M
 all-sorted-spec =

@@ -4,10 +4,14 @@ use Rattle.call.proofs.refusals.differ.Statement.{statement}
 use Rattle.call.proofs.refusals.differ.Tie as tie
 
 type-of-requires : tie.Need-type-of-requires
-type-of-requires c κs = (c .before .pre .0, term-pos _ _ (c .before .pre .1 .0))
+type-of-requires c κs =
+    let s = c .before in
+    (s .pre .0, term-pos _ _ (s .pre .1 .0))
 
 misfits-requires : tie.Need-misfits-requires
-misfits-requires c κs = (c .before .before .pre .0, c .before .before .pre .1 .1)
+misfits-requires c κs =
+    let s = c .before .before in
+    (s .pre .0, s .pre .1 .1)
 
 returns : tie.Need-returns
 returns c = cc

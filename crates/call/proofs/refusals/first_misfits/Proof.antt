@@ -8,7 +8,9 @@ shared-slice-read-misfits : tie.Need-shared-slice-read-misfits
 shared-slice-read-misfits c = search needs
 
 misfits-requires : tie.Need-misfits-requires
-misfits-requires c κs = (c .before .before .before .pre .0, all-get _ _ (c .before .before .before .pre .1 .each) 0 (c .before .before .before .pre .1 .many))
+misfits-requires c κs =
+    let s = c .before .before .before in
+    (s .pre .0, (all-get _ _ (s .pre .1 .each) 0 (s .pre .1 .many)))
 
 returns : tie.Need-returns
 returns c = search needs

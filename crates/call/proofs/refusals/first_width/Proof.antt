@@ -1,8 +1,7 @@
 -- `call::refusals::first_width` meets its contract. Assumes nothing.
 use borrow.Author.Needs.{needs}
-use Rattle.arena.proofs.Chain.{term-pos}
 use Rattle.arena.proofs.Runs.{all-get}
-use Rattle.call.specs.Table.{#0}
+use Rattle.arena.proofs.Chain.{term-pos}
 use Rattle.call.proofs.Suits.{type-pos}
 use Rattle.call.proofs.refusals.first_width.Statement.{statement}
 use Rattle.call.proofs.refusals.first_width.Tie as tie
@@ -11,10 +10,14 @@ shared-slice-read-t7 : tie.Need-shared-slice-read-t7
 shared-slice-read-t7 c = search needs
 
 type-of-requires : tie.Need-type-of-requires
-type-of-requires c κs = (c .before .before .before .pre .0, term-pos _ _ (all-get _ _ (c .before .before .before .pre .1 .each) 0 (c .before .before .before .pre .1 .many)))
+type-of-requires c κs =
+    let s = c .before .before .before in
+    (s .pre .0, term-pos _ _ (all-get _ _ (s .pre .1 .each) 0 (s .pre .1 .many)))
 
 par-of-requires : tie.Need-par-of-requires
-par-of-requires c κs = (c .before .before .before .before .pre .0, rw (c .type-of .ensures) (type-pos (c .before .before .before .before .pre .0) (#0 (c .before .before .before .before .args .xs .now)) (all-get _ _ (c .before .before .before .before .pre .1 .each) 0 (c .before .before .before .before .pre .1 .many))))
+par-of-requires c κs =
+    let s = c .before .before .before .before in
+    (s .pre .0, rw (c .type-of .ensures) (type-pos (s .pre .0) _ (all-get _ _ (s .pre .1 .each) 0 (s .pre .1 .many))))
 
 returns : tie.Need-returns
 returns c = rw (← c .before .type-of .ensures) (c .par-of .ensures)

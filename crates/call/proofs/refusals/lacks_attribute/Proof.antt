@@ -4,8 +4,8 @@ use Prim.Native.Nat.{_-_, _≤_}
 use native.Mathlib.Omega.{arith}
 use lib.ListN.{length, drop}
 use Rattle.arena.specs.Lists.{field}
-use Rattle.call.proofs.Suits.{lacks-none, lacks-some}
 use Rattle.arena.proofs.Loops.{field-hit, field-miss, field-end}
+use Rattle.call.proofs.Suits.{lacks-none, lacks-some}
 use Rattle.call.proofs.refusals.lacks_attribute.Statement.{statement}
 use Rattle.call.proofs.refusals.lacks_attribute.Tie as tie
 
@@ -28,7 +28,9 @@ shared-slice-read-if1 : tie.Need-shared-slice-read-if1 Inv-loop μ-loop
 shared-slice-read-if1 c = omega arith
 
 returns : tie.Need-returns Inv-loop μ-loop
-returns c = lacks-some (c .before .before .before .before .args .run .now) (c .before .before .before .before .args .attribute) _ (c .before .before .before .loop .inv .0 ∙ field-hit _ (c .before .before .before .before .args .attribute) (c .before .before .before .loop .i) (omega arith) (c .if1 .taken))
+returns c =
+    let s = c .before .before .before .before in
+    lacks-some (s .args .run .now) _ _ (c .before .before .before .loop .inv .0 ∙ field-hit _ (s .args .attribute) (c .before .before .before .loop .i) (omega arith) (c .if1 .taken))
 
 add-i : tie.Need-add-i Inv-loop μ-loop
 add-i c = omega arith
@@ -40,7 +42,9 @@ loop-again : tie.Need-loop-again Inv-loop μ-loop
 loop-again c = (c .before .before .before .loop .inv .0 ∙ field-miss _ (c .before .before .before .before .args .attribute) (c .before .before .before .loop .i) (omega arith) (c .if1 .left), omega arith)
 
 returns-2 : tie.Need-returns-2 Inv-loop μ-loop
-returns-2 c = lacks-none (c .before .before .args .run .now) (c .before .before .args .attribute) (c .before .loop .inv .0 ∙ field-end _ (c .before .before .args .attribute) (c .before .loop .i) (omega arith))
+returns-2 c =
+    let s = c .before .before in
+    lacks-none (s .args .run .now) _ (c .before .loop .inv .0 ∙ field-end _ (s .args .attribute) (c .before .loop .i) (omega arith))
 
 pub lacks-attribute-spec : {M : Type 1} → statement M
 lacks-attribute-spec =

@@ -6,7 +6,9 @@ use Rattle.call.proofs.refusals.misfits.Statement.{statement}
 use Rattle.call.proofs.refusals.misfits.Tie as tie
 
 type-of-requires : tie.Need-type-of-requires
-type-of-requires c κs = (c .before .pre .0, term-pos _ _ (c .before .pre .1))
+type-of-requires c κs =
+    let s = c .before in
+    (s .pre .0, term-pos _ _ (s .pre .1))
 
 enum-known-named : tie.Need-enum-known-named
 enum-known-named c = search needs
@@ -15,7 +17,9 @@ enum-known-named-2 : tie.Need-enum-known-named-2
 enum-known-named-2 c = search needs
 
 kind-of-requires : tie.Need-kind-of-requires
-kind-of-requires c κs = (c .before .before .before .before .before .pre .0, rw (c .before .before .before .type-of .ensures) (type-pos (c .before .before .before .before .before .pre .0) (c .before .before .before .before .before .args .x) (c .before .before .before .before .before .pre .1)))
+kind-of-requires c κs =
+    let s = c .before .before .before .before .before in
+    (s .pre .0, rw (c .before .before .before .type-of .ensures) (type-pos (s .pre .0) _ (s .pre .1)))
 
 returns : tie.Need-returns
 returns c = cc
