@@ -3,3 +3,4 @@ pub mod Table
 pub mod Senses
 pub mod Call
 pub mod Promises
+pub mod Forms

@@ -1,1 +1,2 @@
 // One call on a lent arena.
+pub mod refusals;

@@ -1,8 +1,8 @@
 // Whether lent cells are a well-formed arena: the test of refusal 1.
 mod kinds;
 mod looks;
-mod runs;
-mod tests;
+pub mod runs;
+pub mod tests;
 
 ghost use mathlib.Core.Path.{_≡_};
 ghost use Prim.Native.Nat.{_≤_};
