@@ -1,6 +1,6 @@
 -- Demand 1: the refusal given is the smallest number that applies, a refusal changes no cell, and where none applies the answer is what is built. Assumes nothing.
 use mathlib.Core.Path.{_≡_, refl, sym, ap, _∙_, subst}
-use Prim.Native.Nat.{ℕ, zero, suc}
+use Prim.Native.Nat.{ℕ, zero, suc, _≤_}
 use native.Mathlib.Omega.{arith}
 use mathlib.Core.Bool.{Bool, true, false, not, cond}
 use mathlib.Core.List.{List, _∷_, _++_}
@@ -48,9 +48,9 @@ module _ (a : Nodes) (i : Instr) (us : List Test) where
 
 -- ---- the answer by the first test that holds
 
-data Outcome (c : List ℕ) (m : ℕ) (i : Instr) : Type 0 where
+pub data Outcome (c : List ℕ) (m : ℕ) (i : Instr) : Type 0 where
   refuses : (n : ℕ) → firstOf (refusals c m i) ≡ suc n → callOn c m i ≡ lent (refused (suc n)) c → Outcome c m i
-  builds : firstOf (refusals c m i) ≡ 0 → (let o = build (used c m) i in callOn c m i ≡ lent (ok (o .at) (mark (o .arena))) (padded (length c) (o .arena))) → Outcome c m i
+  builds : firstOf (refusals c m i) ≡ 0 → refusal (used c m) i ≡ 0 → mark (build (used c m) i .arena) ≤ length c → (let o = build (used c m) i in callOn c m i ≡ lent (ok (o .at) (mark (o .arena))) (padded (length c) (o .arena))) → Outcome c m i
 
 module _ (c : List ℕ) (m : ℕ) (i : Instr) where
   -- on a well-formed arena
@@ -66,7 +66,7 @@ module _ (c : List ℕ) (m : ℕ) (i : Instr) where
     unfolding refusals firstOf call fitted
     by-fit e true l =
         let o = build (used c m) i in
-        builds (rw f (passed-first (used c m) i _ e ∙ rw (le-ltb (length c) (mark (o .arena)) (leb-true _ _ l)))) (called (done (ok (o .at) (mark (o .arena))) (o .arena)) (rw (e, call, l, fitted)))
+        builds (rw f (passed-first (used c m) i _ e ∙ rw (le-ltb (length c) (mark (o .arena)) (leb-true _ _ l)))) e (leb-true _ _ l) (called (done (ok (o .at) (mark (o .arena))) (o .arena)) (rw (e, call, l, fitted)))
     by-fit e false l =
         let o = build (used c m) i in
         refuses 8 (rw f (passed-first (used c m) i _ e ∙ rw (lt-ltb (length c) (mark (o .arena)) (leb-false _ _ l)))) (refused-as 9 (rw (e, call, l, fitted)))
@@ -76,14 +76,14 @@ module _ (c : List ℕ) (m : ℕ) (i : Instr) where
     by-refusal zero e = by-fit e (leb (mark (build (used c m) i .arena)) (length c)) refl
     by-refusal (suc k) e = refuses k (rw f (refused-first (used c m) i _ k e)) (refused-as (suc k) (rw (e, call)))
 
-  outcome : (b : Bool) → formed c m ≡ b → Outcome c m i
+  pub outcome : (b : Bool) → formed c m ≡ b → Outcome c m i
   unfolding refusals firstOf callOn
   outcome false f = refuses 0 (rw f) (rw (f, callOn))
   outcome true f = by-refusal f (refusal (used c m) i) refl
 
 -- ---- the demand
 
-differ : {X : Type 0} {p q n : ℕ} → ok p q ≡ refused n → X
+pub differ : {X : Type 0} {p q n : ℕ} → ok p q ≡ refused n → X
 differ e = let z : _≡_ {A = ℕ} 0 1 = cc in absurd (omega arith)
 
 pub demand-1 : (c : List ℕ) (m : ℕ) (i : Instr) → Answered c m i
@@ -101,7 +101,7 @@ demand-1 c m i = go (outcome c m i (formed c m) refl)
           unchanged = λ n q. ap (λ (l : Lent). l .cells) e;
           accepted = λ q. t≢f (sym (s .holds) ∙ q (suc k));
         }
-    go (builds f e) =
+    go (builds f r l e) =
         let q = quiet 1 (refusals c m i) rise (omega arith) f in
         record {
           given = λ n z. differ (sym (ap (λ (l : Lent). l .reply) e) ∙ z);

@@ -8,4 +8,5 @@ pub mod Demand3
 pub mod Numbers
 pub mod Suits
 pub mod Order
+pub mod Kept
 pub mod Examples

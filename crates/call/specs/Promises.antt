@@ -1,6 +1,6 @@
--- What document 01 promises of a call: which refusal is given (demand 1), and what a call that is not refused builds (demand 3).
+-- What document 01 promises of a call: which refusal is given (demand 1), what is left, and what a call that is not refused builds (demand 3).
 use mathlib.Core.Path.{_≡_}
-use Prim.Native.Nat.{ℕ, _<_}
+use Prim.Native.Nat.{ℕ, _≤_, _<_}
 use mathlib.Core.Bool.{Bool, true, false, not, _&&_, _||_}
 use mathlib.Core.List.{List, [], _∷_, _++_}
 use lib.ListN.{length}
@@ -9,12 +9,12 @@ use Rattle.arena.specs.Lists.{all, odds}
 use Rattle.arena.specs.Nodes.{Nodes, mark, nodeAt, Out}
 use Rattle.arena.specs.Cells.{used, padded}
 use Rattle.arena.specs.Walks.{isLit}
-use Rattle.arena.specs.WellFormed.{isType, isTerm, wellFormed, formed}
+use Rattle.arena.specs.WellFormed.{isType, isTerm, wellFormed, formed, IsArena}
 use Rattle.arena.specs.Meaning.{tyAt, Interp, Good, meaning}
 use Rattle.instruction.specs.Instruction.{Instr}
 use Rattle.call.specs.Table.{Sort, ty, tm, Shape, fixed, pairs, run, known, row}
 use Rattle.call.specs.Senses.{Sense}
-use Rattle.call.specs.Call.{Test, test, tests, ok, refused, build, lent, callOn}
+use Rattle.call.specs.Call.{Test, test, tests, Reply, ok, refused, build, Lent, lent, callOn}
 
 -- ---- which refusal is given
 
@@ -45,6 +45,21 @@ pub record Answered (c : List ℕ) (m : ℕ) (i : Instr) : Type 0 where
   -- where none applies: the position and the mark of what is built, and its cells
   pub accepted : ((n : ℕ) → applies n (refusals c m i) ≡ false)
       → let o = build (used c m) i in callOn c m i ≡ lent (ok (o .at) (mark (o .arena))) (padded (length c) (o .arena))
+
+-- ---- what is left
+
+-- the mark after an answer: a refusal leaves the mark that was
+unfoldable pub markAfter : ℕ → Reply → ℕ
+markAfter m (ok p n) = n
+markAfter m (refused k) = m
+
+-- what a call on the cells c and the mark m leaves is an arena again, of as many cells
+pub record After (c : List ℕ) (m : ℕ) (d : Lent) : Type 0 where
+  pub arena : IsArena (d .cells) (markAfter m (d .reply))
+  pub long : length (d .cells) ≡ length c
+  -- a position and a mark are at most the number of cells, a refusal's number is at most 9
+  pub place : (p n : ℕ) → d .reply ≡ ok p n → (p ≤ length c) × (n ≤ length c)
+  pub number : (k : ℕ) → d .reply ≡ refused k → k ≤ 9
 
 -- ---- what is built
 
