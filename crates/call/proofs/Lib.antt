@@ -9,4 +9,5 @@ pub mod Numbers
 pub mod Suits
 pub mod Order
 pub mod Kept
+pub mod Dispatch
 pub mod Examples

@@ -56,7 +56,7 @@ known-top o k = go (leb o 75) refl
     go false e = let h = leb-false o 75 e in t≢f (sym k ∙ unknown-above o (omega arith))
 
 -- past a gap
-known-past : (lo n : ℕ) → told known lo n ≡ told (λ o. false) lo n → (o : ℕ) → known o ≡ true → lo ≤ o → lo + n ≤ o
+pub known-past : (lo n : ℕ) → told known lo n ≡ told (λ o. false) lo n → (o : ℕ) → known o ≡ true → lo ≤ o → lo + n ≤ o
 known-past lo n e o k h = go (leb (lo + n) o) refl
   where
     go : (b : Bool) → leb (lo + n) o ≡ b → lo + n ≤ o

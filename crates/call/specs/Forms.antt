@@ -10,7 +10,7 @@ use Rattle.arena.specs.Nodes.{Nodes}
 use Rattle.arena.specs.WellFormed.{isTerm}
 use Rattle.instruction.specs.Instruction.{Instr}
 use Rattle.call.specs.Table.{Sort, ty, tm, Shape, fixed, pairs, run, row, notOf, notKind}
-use Rattle.call.specs.Call.{operandsOk}
+use Rattle.call.specs.Call.{operandsOk, refusal}
 use Rattle.call.specs.declared.refusals.Form.{Form}
 use Rattle.call.specs.declared.refusals.Form.the-variants.{Fixed, Pairs, Run}
 use Rattle.call.specs.declared.refusals.Named.{Named}
@@ -58,3 +58,7 @@ lacks r k = elim (field r k) [ none ↦ true | some t ↦ false ]
 
 abbrev pub instr : ℕ → ℕ → ℕ → List ℕ → Instr
 instr o p n xs = record { op = o; par = p; count = n; operands = xs }
+
+-- none of the refusals 2 to 8 applies
+abbrev pub Accepted : Nodes → ℕ → ℕ → List ℕ → Type 0
+Accepted a o p xs = refusal a (instr o p (length xs) xs) ≡ 0

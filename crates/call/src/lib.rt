@@ -1,2 +1,3 @@
 // One call on a lent arena.
+pub mod build;
 pub mod refusals;

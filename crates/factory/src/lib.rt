@@ -62,7 +62,7 @@ fn all2(a: bool, b: bool) -> bool
     if a { b } else { false }
 }
 
-fn bool_at(b: bool) -> TermPos
+pub fn bool_at(b: bool) -> TermPos
     ensures { λ r. ⌜ r .0 ≡ boolAt b ⌝ }
 {
     if b { TRUE } else { FALSE }
