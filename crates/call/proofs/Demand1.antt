@@ -16,7 +16,7 @@ use Rattle.arena.proofs.Padded.{arena-cells}
 use Rattle.instruction.specs.Instruction.{Instr}
 use Rattle.call.specs.Table.{known, row}
 use Rattle.call.specs.Call.{Test, test, firstOf, tests, refusal, ok, refused, Done, done, fitted, build, call, Lent, lent, callOn}
-use Rattle.call.specs.Promises.{refusals, applies, Smallest, Answered}
+use Rattle.call.specs.Promises.{refusals, applies, Smallest, Exact}
 use Rattle.call.proofs.First.{Rising, tests-rise, quiet, quiet-none, smallest, smallest-one, first-found, first-on}
 
 -- the numbers are 1, 2, 2, 3 and so on to 9
@@ -86,13 +86,13 @@ module _ (c : List ℕ) (m : ℕ) (i : Instr) where
 pub differ : {X : Type 0} {p q n : ℕ} → ok p q ≡ refused n → X
 differ e = let z : _≡_ {A = ℕ} 0 1 = cc in absurd (omega arith)
 
-pub demand-1 : (c : List ℕ) (m : ℕ) (i : Instr) → Answered c m i
+pub demand-1 : (c : List ℕ) (m : ℕ) (i : Instr) → Exact c m i
 demand-1 c m i = go (outcome c m i (formed c m) refl)
   where
     rise : Rising 1 (refusals c m i)
     rise = refusals-rise c m i
 
-    go : Outcome c m i → Answered c m i
+    go : Outcome c m i → Exact c m i
     go (refuses k f e) =
         let s = smallest 1 (refusals c m i) rise (suc k) (omega arith) f in
         record {

@@ -9,18 +9,18 @@ use lib.Dec.{leb}
 use borrow.Author.Tests.{leb-true, leb-false}
 use Rattle.arena.specs.Nodes.{Nodes}
 use Rattle.call.specs.Table.{Row, bvappRow, bvcmpRow, bvsoRow, table, rowOf, known, row}
-use Rattle.call.specs.Forms.{instr, Accepted}
+use Rattle.call.specs.Forms.{instr, Passes}
 use Rattle.call.proofs.Fits.{Passed, passed}
 use Rattle.call.proofs.Numbers.{told, one-by-one, known-past, known-top}
 
-pub accepted-known : (a : Nodes) (o p : ℕ) (xs : List ℕ) → Accepted a o p xs → known o ≡ true
+pub accepted-known : (a : Nodes) (o p : ℕ) (xs : List ℕ) → Passes a o p xs → known o ≡ true
 accepted-known a o p xs h = passed a (instr o p (length xs) xs) h .listed
 
 -- the tests passed, by the operation's own row
-pub passed-row : (a : Nodes) (o p : ℕ) (xs : List ℕ) (r : Row) → row o ≡ r → Accepted a o p xs → Passed a (instr o p (length xs) xs) r
+pub passed-row : (a : Nodes) (o p : ℕ) (xs : List ℕ) (r : Row) → row o ≡ r → Passes a o p xs → Passed a (instr o p (length xs) xs) r
 passed-row a o p xs r e h = subst (Passed a (instr o p (length xs) xs)) e (passed a (instr o p (length xs) xs) h)
 
-pub passed-at : (a : Nodes) (o p : ℕ) (xs : List ℕ) (k : ℕ) → o ≡ k → Accepted a o p xs → Passed a (instr k p (length xs) xs) (row k)
+pub passed-at : (a : Nodes) (o p : ℕ) (xs : List ℕ) (k : ℕ) → o ≡ k → Passes a o p xs → Passed a (instr k p (length xs) xs) (row k)
 passed-at a o p xs k e h = subst (λ (n : ℕ). Passed a (instr n p (length xs) xs) (row n)) e (passed a (instr o p (length xs) xs) h)
 
 -- what is built, by the operation's own row

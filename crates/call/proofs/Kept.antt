@@ -18,8 +18,9 @@ use Rattle.arena.proofs.Padded.{padded-length, padded-used, padded-arena}
 use Rattle.instruction.specs.Instruction.{Instr}
 use Rattle.call.specs.Table.{Shape, fixed, pairs, run, Row, table, rowOf, row}
 use Rattle.call.specs.Senses.{Sense, senses, senseOf}
-use Rattle.call.specs.Call.{countOk, tooMany, Test, test, firstOf, tests, refusal, ok, build, Lent, callOn}
-use Rattle.call.specs.Promises.{refusals, markAfter, After, Meant, TypeBuilt}
+use Rattle.call.specs.Call.{countOk, tooMany, Test, test, firstOf, tests, refusal, Reply, ok, refused, build, Lent, callOn}
+use Rattle.call.specs.Answers.{markAfter}
+use Rattle.call.specs.Promises.{refusals, After, Meant, TypeBuilt}
 use Rattle.call.proofs.Fits.{passed, fixed-count}
 use Rattle.call.proofs.Demand1.{Outcome, refuses, builds, outcome, differ}
 use Rattle.call.proofs.Demand3.{has-sense, demand-3, demand-types, build-wf}
@@ -63,7 +64,7 @@ row-few o = go (rowOf table o) refl
     go none q = rw (q, row)
     go (some r) q = rw (q, row) (row-narrow table table-narrow o r q)
 
-few : (a : Nodes) (i : Instr) → refusal a i ≡ 0 → i .count ≤ 257
+pub few : (a : Nodes) (i : Instr) → refusal a i ≡ 0 → i .count ≤ 257
 few a i e = let P = passed a i e in shape-few (row (i .op)) (i .count) (row-few (i .op)) (P .count) (P .few)
 
 -- ---- a refusal's number
@@ -105,7 +106,6 @@ module _ (c : List ℕ) (m : ℕ) (i : Instr) (h : i .count ≤ 257 → length (
           term-below (o .arena) (o .at) (demand-3 a (A .below .well) i (h (few a i r)) k r (s .0) (s .1) .isterm)
 
   pub kept : After c m (callOn c m i)
-  unfolding markAfter
   kept = go (outcome c m i (formed c m) refl)
     where
       go : Outcome c m i → After c m (callOn c m i)
@@ -142,3 +142,15 @@ module _ (c : List ℕ) (m : ℕ) (i : Instr) (h : i .count ≤ 257 → length (
 
   pub demand-types-cells : i .op < 10 → (p n : ℕ) → callOn c m i .reply ≡ ok p n → TypeBuilt (used c m) (out (used (callOn c m i .cells) n) p)
   demand-types-cells k p n z = let w = left p n z in subst (TypeBuilt a) (w .1) (demand-types a (A .below .well) i (h (few a i (w .0))) k (w .0))
+
+-- the numbers of an answer, in an arena of n cells
+abbrev pub Small : ℕ → Reply → Type 0
+Small n (ok p m) = (p ≤ n) × (m ≤ n)
+Small n (refused k) = k ≤ 9
+
+pub small : {c : List ℕ} {m : ℕ} {d : Lent} → After c m d → Small (length c) (d .reply)
+small {c} {d = d} h = go (d .reply) refl
+  where
+    go : (r : Reply) → d .reply ≡ r → Small (length c) r
+    go (ok p n) e = h .place p n e
+    go (refused k) e = h .number k e

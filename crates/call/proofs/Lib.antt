@@ -10,4 +10,5 @@ pub mod Suits
 pub mod Order
 pub mod Kept
 pub mod Dispatch
+pub mod Entry
 pub mod Examples

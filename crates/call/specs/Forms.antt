@@ -59,6 +59,13 @@ lacks r k = elim (field r k) [ none ↦ true | some t ↦ false ]
 abbrev pub instr : ℕ → ℕ → ℕ → List ℕ → Instr
 instr o p n xs = record { op = o; par = p; count = n; operands = xs }
 
+abbrev pub listed : ℕ → ℕ → List ℕ → Instr
+listed o p xs = instr o p (length xs) xs
+
 -- none of the refusals 2 to 8 applies
-abbrev pub Accepted : Nodes → ℕ → ℕ → List ℕ → Type 0
-Accepted a o p xs = refusal a (instr o p (length xs) xs) ≡ 0
+abbrev pub Passes : Nodes → ℕ → ℕ → List ℕ → Type 0
+Passes a o p xs = refusal a (listed o p xs) ≡ 0
+
+-- as many operands as the count says, up to what an instruction's array holds
+abbrev pub Held : ℕ → List ℕ → Type 0
+Held n xs = n ≤ 257 → length xs ≡ n

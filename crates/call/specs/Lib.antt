@@ -2,5 +2,6 @@
 pub mod Table
 pub mod Senses
 pub mod Call
+pub mod Answers
 pub mod Promises
 pub mod Forms

@@ -14,6 +14,7 @@ use Rattle.arena.specs.Meaning.{tyAt, Interp, Good, meaning}
 use Rattle.instruction.specs.Instruction.{Instr}
 use Rattle.call.specs.Table.{Sort, ty, tm, Shape, fixed, pairs, run, known, row}
 use Rattle.call.specs.Senses.{Sense}
+use Rattle.call.specs.Answers.{markAfter}
 use Rattle.call.specs.Call.{Test, test, tests, Reply, ok, refused, build, Lent, lent, callOn}
 
 -- ---- which refusal is given
@@ -36,7 +37,7 @@ pub record Smallest (n : ℕ) (ts : List Test) : Type 0 where
   pub holds : applies n ts ≡ true
   pub least : (k : ℕ) → k < n → applies k ts ≡ false
 
-pub record Answered (c : List ℕ) (m : ℕ) (i : Instr) : Type 0 where
+pub record Exact (c : List ℕ) (m : ℕ) (i : Instr) : Type 0 where
   -- n is given exactly when it is the smallest number that applies
   pub given : (n : ℕ) → callOn c m i .reply ≡ refused n → Smallest n (refusals c m i)
   pub gives : (n : ℕ) → Smallest n (refusals c m i) → callOn c m i .reply ≡ refused n
@@ -47,11 +48,6 @@ pub record Answered (c : List ℕ) (m : ℕ) (i : Instr) : Type 0 where
       → let o = build (used c m) i in callOn c m i ≡ lent (ok (o .at) (mark (o .arena))) (padded (length c) (o .arena))
 
 -- ---- what is left
-
--- the mark after an answer: a refusal leaves the mark that was
-unfoldable pub markAfter : ℕ → Reply → ℕ
-markAfter m (ok p n) = n
-markAfter m (refused k) = m
 
 -- what a call on the cells c and the mark m leaves is an arena again, of as many cells
 pub record After (c : List ℕ) (m : ℕ) (d : Lent) : Type 0 where

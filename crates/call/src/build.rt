@@ -12,7 +12,7 @@ ghost use lib.ListN.{getD, drop};
 ghost use Rattle.arena.specs.Did.{Did, termReply, typeReply, nodeReply};
 ghost use Rattle.factory.specs.Fit.{Ready};
 ghost use Rattle.call.specs.Table.{row};
-ghost use Rattle.call.specs.Forms.{Accepted};
+ghost use Rattle.call.specs.Forms.{Passes};
 
 // Operand i, 0 past their end.
 fn operand(xs: &[u64], i: usize) -> u64
@@ -33,7 +33,7 @@ fn rest(xs: &[u64]) -> &[u64]
 
 // Types: 1 to 5.
 fn build_type(cells: &mut [u64], cursor: Cursor, op: u64, par: u64, xs: &[u64]) -> TypeStep
-    requires { ⌜ Ready (λ a. Accepted a op par (now xs)) (now cells) (cursor .mark) ⌝ }
+    requires { ⌜ Ready (λ a. Passes a op par (now xs)) (now cells) (cursor .mark) ⌝ }
     requires { ⌜ 1 ≤ op × op ≤ 5 ⌝ }
     ensures { λ r. ⌜ Did (λ a. row op .build a par (now (xs .entry))) (now (cells .entry)) (cursor .mark) (typeReply r) (now (cells .exit)) ⌝ }
 {
@@ -50,7 +50,7 @@ fn build_type(cells: &mut [u64], cursor: Cursor, op: u64, par: u64, xs: &[u64]) 
 
 // Makers: 10 to 16.
 fn build_maker(cells: &mut [u64], cursor: Cursor, op: u64, par: u64, xs: &[u64]) -> TermStep
-    requires { ⌜ Ready (λ a. Accepted a op par (now xs)) (now cells) (cursor .mark) ⌝ }
+    requires { ⌜ Ready (λ a. Passes a op par (now xs)) (now cells) (cursor .mark) ⌝ }
     requires { ⌜ 10 ≤ op × op ≤ 16 ⌝ }
     ensures { λ r. ⌜ Did (λ a. row op .build a par (now (xs .entry))) (now (cells .entry)) (cursor .mark) (termReply r) (now (cells .exit)) ⌝ }
 {
@@ -68,7 +68,7 @@ fn build_maker(cells: &mut [u64], cursor: Cursor, op: u64, par: u64, xs: &[u64])
 
 // Core: 20 to 26.
 fn build_core(cells: &mut [u64], cursor: Cursor, op: u64, par: u64, xs: &[u64]) -> TermStep
-    requires { ⌜ Ready (λ a. Accepted a op par (now xs)) (now cells) (cursor .mark) ⌝ }
+    requires { ⌜ Ready (λ a. Passes a op par (now xs)) (now cells) (cursor .mark) ⌝ }
     requires { ⌜ 20 ≤ op × op ≤ 26 ⌝ }
     ensures { λ r. ⌜ Did (λ a. row op .build a par (now (xs .entry))) (now (cells .entry)) (cursor .mark) (termReply r) (now (cells .exit)) ⌝ }
 {
@@ -87,7 +87,7 @@ fn build_core(cells: &mut [u64], cursor: Cursor, op: u64, par: u64, xs: &[u64]) 
 
 // Bitvectors: 30 to 49.
 fn build_bitvector(cells: &mut [u64], cursor: Cursor, op: u64, par: u64, xs: &[u64]) -> TermStep
-    requires { ⌜ Ready (λ a. Accepted a op par (now xs)) (now cells) (cursor .mark) ⌝ }
+    requires { ⌜ Ready (λ a. Passes a op par (now xs)) (now cells) (cursor .mark) ⌝ }
     requires { ⌜ 30 ≤ op × op ≤ 49 ⌝ }
     ensures { λ r. ⌜ Did (λ a. row op .build a par (now (xs .entry))) (now (cells .entry)) (cursor .mark) (termReply r) (now (cells .exit)) ⌝ }
 {
@@ -113,7 +113,7 @@ fn build_bitvector(cells: &mut [u64], cursor: Cursor, op: u64, par: u64, xs: &[u
 
 // Sets, options and records: 50 to 56.
 fn build_data(cells: &mut [u64], cursor: Cursor, op: u64, par: u64, xs: &[u64]) -> TermStep
-    requires { ⌜ Ready (λ a. Accepted a op par (now xs)) (now cells) (cursor .mark) ⌝ }
+    requires { ⌜ Ready (λ a. Passes a op par (now xs)) (now cells) (cursor .mark) ⌝ }
     requires { ⌜ 50 ≤ op × op ≤ 56 ⌝ }
     ensures { λ r. ⌜ Did (λ a. row op .build a par (now (xs .entry))) (now (cells .entry)) (cursor .mark) (termReply r) (now (cells .exit)) ⌝ }
 {
@@ -132,7 +132,7 @@ fn build_data(cells: &mut [u64], cursor: Cursor, op: u64, par: u64, xs: &[u64]) 
 
 // Helpers: 60 to 66.
 fn build_helper(cells: &mut [u64], cursor: Cursor, op: u64, par: u64, xs: &[u64]) -> TermStep
-    requires { ⌜ Ready (λ a. Accepted a op par (now xs)) (now cells) (cursor .mark) ⌝ }
+    requires { ⌜ Ready (λ a. Passes a op par (now xs)) (now cells) (cursor .mark) ⌝ }
     requires { ⌜ 60 ≤ op × op ≤ 66 ⌝ }
     ensures { λ r. ⌜ Did (λ a. row op .build a par (now (xs .entry))) (now (cells .entry)) (cursor .mark) (termReply r) (now (cells .exit)) ⌝ }
 {
@@ -151,7 +151,7 @@ fn build_helper(cells: &mut [u64], cursor: Cursor, op: u64, par: u64, xs: &[u64]
 
 // Compiled: 70 to 75.
 fn build_compiled(cells: &mut [u64], cursor: Cursor, op: u64, par: u64, xs: &[u64]) -> TermStep
-    requires { ⌜ Ready (λ a. Accepted a op par (now xs)) (now cells) (cursor .mark) ⌝ }
+    requires { ⌜ Ready (λ a. Passes a op par (now xs)) (now cells) (cursor .mark) ⌝ }
     requires { ⌜ 70 ≤ op × op ≤ 75 ⌝ }
     ensures { λ r. ⌜ Did (λ a. row op .build a par (now (xs .entry))) (now (cells .entry)) (cursor .mark) (termReply r) (now (cells .exit)) ⌝ }
 {
@@ -168,7 +168,7 @@ fn build_compiled(cells: &mut [u64], cursor: Cursor, op: u64, par: u64, xs: &[u6
 
 // A term: 10 to 75.
 fn build_term(cells: &mut [u64], cursor: Cursor, op: u64, par: u64, xs: &[u64]) -> TermStep
-    requires { ⌜ Ready (λ a. Accepted a op par (now xs)) (now cells) (cursor .mark) ⌝ }
+    requires { ⌜ Ready (λ a. Passes a op par (now xs)) (now cells) (cursor .mark) ⌝ }
     requires { ⌜ 10 ≤ op ⌝ }
     ensures { λ r. ⌜ Did (λ a. row op .build a par (now (xs .entry))) (now (cells .entry)) (cursor .mark) (termReply r) (now (cells .exit)) ⌝ }
 {
@@ -192,7 +192,7 @@ fn build_term(cells: &mut [u64], cursor: Cursor, op: u64, par: u64, xs: &[u64]) 
 
 // What the operation builds, a type or a term.
 pub fn build(cells: &mut [u64], cursor: Cursor, op: u64, par: u64, xs: &[u64]) -> NodeStep
-    requires { ⌜ Ready (λ a. Accepted a op par (now xs)) (now cells) (cursor .mark) ⌝ }
+    requires { ⌜ Ready (λ a. Passes a op par (now xs)) (now cells) (cursor .mark) ⌝ }
     ensures { λ r. ⌜ Did (λ a. row op .build a par (now (xs .entry))) (now (cells .entry)) (cursor .mark) (nodeReply r) (now (cells .exit)) ⌝ }
 {
     if op < 10 {

@@ -4,7 +4,7 @@ use lib.ListN.{getD}
 use mathlib.Core.Path.{_≡_, _∙_}
 use native.Mathlib.Omega.{arith}
 use Rattle.call.specs.Table.{row, table, rowOf}
-use Rattle.call.proofs.Dispatch.{passed-at, passed-row, app-row, cmp-row, so-row, build-row, build-at}
+use Rattle.call.proofs.Dispatch.{passed-at, build-at, passed-row, app-row, cmp-row, so-row, build-row}
 use Rattle.call.proofs.Fits.{one-term, first-kind, two-kind, widened}
 use Rattle.factory.proofs.Calls.{ready-wf}
 use Rattle.arena.specs.Cells.{used}

@@ -4,11 +4,11 @@ use mathlib.Core.Path.{refl, _∙_}
 use Rattle.call.specs.Table.{tm, row, table, rowOf}
 use Rattle.call.proofs.Dispatch.{passed-at, up, same, build-at}
 use Rattle.call.proofs.Fits.{even-pairs, few-pairs, one-term, term-pairs, all-options, first-kind, width-64, one-bool, small-par, small-keys, field-there}
+use Rattle.call.proofs.Kept.{small}
 use Rattle.factory.proofs.Calls.{ready-wf}
 use Rattle.factory.proofs.Guards.{options}
 use Rattle.arena.specs.Cells.{used}
 use Rattle.arena.specs.Lists.{odds}
-use Rattle.arena.specs.WellFormed.{small}
 use Rattle.arena.proofs.Steps.{picked}
 use borrow.Author.Needs.{needs}
 use Rattle.call.proofs.build.build_compiled.Statement.{statement}
