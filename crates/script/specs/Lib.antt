@@ -1,0 +1,3 @@
+-- A whole script: what is written, as a function of what is read.
+pub mod Script
+pub mod Running
