@@ -2,4 +2,5 @@
 pub mod Short
 pub mod Steps
 pub mod Going
+pub mod Calls
 pub mod Examples
