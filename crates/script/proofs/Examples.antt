@@ -50,6 +50,7 @@ version =
     ∷ 0x0b ∷ 0xff ∷ 0xff ∷ 0xff ∷ 0xff ∷ 0xff ∷ 0xff ∷ 0xff ∷ 0xff ∷ 0xff ∷ 0x01 ∷ 0x01 ∷ 0x0c
     ∷ 0x0b ∷ 0x05 ∷ 0x01 ∷ 0x0c
     ∷ 0x29 ∷ 0x00 ∷ 0x02 ∷ 0x1e ∷ 0x22
+    ∷ 0x2b ∷ 0x00 ∷ 0x02 ∷ 0x1e ∷ 0x22
     ∷ []
 
 unfoldable examples : List Example
@@ -57,9 +58,9 @@ examples =
     -- document 01's script
     example document (ok 12 16 ∷ ok 16 20 ∷ ok 20 24 ∷ refused 5 ∷ [])
     -- no bytes
-    ∷ example [] ([])
+    ∷ example [] []
     -- the version rule of docs/SCRIPTS.md
-    ∷ example version (ok 12 16 ∷ ok 16 20 ∷ ok 20 24 ∷ ok 24 30 ∷ ok 30 34 ∷ ok 34 38 ∷ ok 8 38 ∷ [])
+    ∷ example version (ok 12 16 ∷ ok 16 20 ∷ ok 20 24 ∷ ok 24 30 ∷ ok 30 34 ∷ ok 34 38 ∷ ok 8 38 ∷ ok 4 38 ∷ [])
     -- what is there is found
     ∷ example (0x02 ∷ 0x40 ∷ 0x00 ∷ 0x02 ∷ 0x40 ∷ 0x00 ∷ []) (ok 12 16 ∷ ok 12 16 ∷ [])
     -- after a refusal the script goes on in the arena as it was
