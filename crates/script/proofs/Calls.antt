@@ -1,20 +1,22 @@
 -- The answers to instructions are the lines of calls, each on the arena left before it; a bad one behind them is refused. Assumes nothing.
 use mathlib.Core.Path.{_≡_, refl, sym, ap, _∙_, subst}
+use mathlib.Core.Logic.{_⊎_, inl, inr, ⊎-elim}
 use mathlib.Core.List.{List, [], _∷_, _++_, append-assoc, append-nil}
-use Prim.Native.Nat.{ℕ, _+_, _≤_, _<_}
+use Prim.Native.Nat.{ℕ, zero, suc, _+_, _≤_, _<_}
 use native.Mathlib.Omega.{arith}
 use borrow.Author.Tests.{le-leb}
-use lib.ListN.{length, length-append}
+use lib.ListN.{length, drop, length-append, length-drop, drop-of-length-le}
 use Rattle.arena.specs.Nodes.{mark, fresh}
 use Rattle.arena.specs.Cells.{padded}
 use Rattle.instruction.specs.Instruction.{Instr}
-use Rattle.codec.specs.Instructions.{Reading, whole, bad, instructionAt, allGroups, numbers}
+use Rattle.codec.specs.Instructions.{Reading, whole, bad, instructionAt, allGroups, numbers, Encodes}
 use Rattle.codec.specs.Lines.{refusedLine}
-use Rattle.codec.proofs.Listed.{instruction-back}
+use Rattle.codec.proofs.Choices.{lt-or-le}
+use Rattle.codec.proofs.Listed.{instruction-read, instruction-back}
 use Rattle.call.specs.Call.{callOn}
 use Rattle.call.specs.Answers.{markAfter}
 use Rattle.script.specs.Script.{longest, lent, State, state, start, Step, wrote, lineOf, called, stepOn, step, onto, ran, answers}
-use Rattle.script.specs.Calls.{Sayable, AllSayable, said, calls}
+use Rattle.script.specs.Calls.{Sayable, AllSayable, said, calls, lastLine}
 use Rattle.script.proofs.Short.{three-bytes}
 use Rattle.script.proofs.Steps.{ran-more, ran-end}
 
@@ -78,3 +80,72 @@ whole-script is h short =
     ap answers (sym n)
     ∙ from-start is h [] (rw n short) [] (λ c m. ap (λ (t : Step). t .text) (ran-end (said is ++ []) (state c m (length (said is))) (let x = ap length n in omega arith)))
     ∙ append-nil (calls (padded lent fresh) (mark fresh) is)
+
+-- ---- every script is instructions, and behind them nothing or nothing that can be read
+
+record Split (bytes : List ℕ) (at : ℕ) : Type 0 where
+  is : List Instr
+  tail : List ℕ
+  sayable : AllSayable is
+  stands : drop at bytes ≡ said is ++ tail
+  ends : (tail ≡ []) ⊎ ((0 < length tail) × (instructionAt bytes (at + length (said is)) ≡ bad))
+
+split-whole : {bytes : List ℕ} {at : ℕ} {i : Instr} {next : ℕ} → Encodes bytes at i next → Split bytes next → Split bytes at
+unfolding AllSayable said
+split-whole {bytes} {at} {i} {next} e r =
+    let g = allGroups (numbers i) in
+    let n : next + length (said (r .is)) ≡ at + length (g ++ said (r .is)) = omega (arith, e .begin .behind, length-append g (said (r .is))) in
+    record {
+      is = i ∷ r .is;
+      tail = r .tail;
+      sayable = (record { small = e .begin .small; counted = e .counted; most = e .most }, r .sayable);
+      stands = e .begin .stands ∙ ap (λ (x : List ℕ). g ++ x) (r .stands) ∙ sym (append-assoc g (said (r .is)) (r .tail));
+      ends = subst (λ (k : ℕ). (r .tail ≡ []) ⊎ ((0 < length (r .tail)) × (instructionAt bytes k ≡ bad))) n (r .ends);
+    }
+
+split-none : (bytes : List ℕ) (at : ℕ) → ((drop at bytes ≡ []) ⊎ ((0 < length (drop at bytes)) × (instructionAt bytes at ≡ bad))) → Split bytes at
+unfolding AllSayable said
+split-none bytes at e =
+    let n : at ≡ at + 0 = omega arith in
+    record {
+      is = [];
+      tail = drop at bytes;
+      sayable = tt;
+      stands = refl;
+      ends = subst (λ (k : ℕ). (drop at bytes ≡ []) ⊎ ((0 < length (drop at bytes)) × (instructionAt bytes k ≡ bad))) n e;
+    }
+
+split-read : (bytes : List ℕ) (at : ℕ) → ((next : ℕ) → at < next → Split bytes next) → (l : Reading) → instructionAt bytes at ≡ l → Split bytes at
+split-read bytes at more (whole i next) e =
+    let b = three-bytes bytes at i next e in
+    split-whole (instruction-read bytes at i next .0 e) (more next (omega arith))
+split-read bytes at more bad e =
+    split-none bytes at (⊎-elim (λ h. inr (omega (arith, length-drop at bytes), e)) (λ h. inl (drop-of-length-le bytes h)) (lt-or-le at (length bytes)))
+
+split : (bytes : List ℕ) (k at : ℕ) → length bytes ≤ at + k → Split bytes at
+split bytes zero at h = split-none bytes at (inl (drop-of-length-le bytes {i = at} (omega arith)))
+split bytes (suc k) at h = split-read bytes at (λ next l. split bytes k next (omega arith)) (instructionAt bytes at) refl
+
+-- so `calls` says every output
+pub record Told (bytes : List ℕ) : Type 0 where
+  pub is : List Instr
+  pub tail : List ℕ
+  pub sayable : AllSayable is
+  pub stands : bytes ≡ said is ++ tail
+  pub told : answers bytes ≡ calls (padded lent fresh) (mark fresh) is ++ lastLine tail
+
+pub every-script : (bytes : List ℕ) → length bytes ≤ longest → Told bytes
+unfolding lastLine
+every-script bytes h =
+    let s = split bytes (length bytes) 0 (omega arith) in
+    record { is = s .is; tail = s .tail; sayable = s .sayable; stands = s .stands; told = ap answers (s .stands) ∙ go (s .is) (s .sayable) (s .tail) (subst (λ (x : List ℕ). length x ≤ longest) (s .stands) h) (ends s) }
+  where
+    ends : (s : Split bytes 0) → (s .tail ≡ []) ⊎ ((0 < length (s .tail)) × (instructionAt (said (s .is) ++ s .tail) (length (said (s .is))) ≡ bad))
+    ends s =
+        let z : 0 + length (said (s .is)) ≡ length (said (s .is)) = omega arith in
+        ⊎-elim inl (λ e. inr (e .0, subst (λ (x : List ℕ). instructionAt x (length (said (s .is))) ≡ bad) (s .stands) (subst (λ (k : ℕ). instructionAt bytes k ≡ bad) z (e .1)))) (s .ends)
+
+    go : (is : List Instr) → AllSayable is → (tail : List ℕ) → length (said is ++ tail) ≤ longest → (tail ≡ []) ⊎ ((0 < length tail) × (instructionAt (said is ++ tail) (length (said is)) ≡ bad))
+        → answers (said is ++ tail) ≡ calls (padded lent fresh) (mark fresh) is ++ lastLine tail
+    go is w [] l e = rw append-nil (rw append-nil (whole-script is w (rw append-nil at l)))
+    go is w (b ∷ bs) l e = ⊎-elim (λ x. absurd (omega (arith, ap length x))) (λ x. broken-script is w (b ∷ bs) l (x .0) (x .1)) e

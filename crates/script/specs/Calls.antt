@@ -5,6 +5,7 @@ use mathlib.Core.List.{List, [], _∷_, _++_}
 use lib.ListN.{length, getD}
 use Rattle.instruction.specs.Instruction.{Instr}
 use Rattle.codec.specs.Instructions.{allGroups, numbers}
+use Rattle.codec.specs.Lines.{refusedLine}
 use Rattle.call.specs.Call.{callOn}
 use Rattle.call.specs.Answers.{markAfter}
 use Rattle.script.specs.Script.{lineOf}
@@ -28,3 +29,8 @@ said (i ∷ is) = allGroups (numbers i) ++ said is
 unfoldable pub calls : List ℕ → ℕ → List Instr → List ℕ
 calls c m [] = []
 calls c m (i ∷ is) = let l = callOn c m i in let r = calls (l .cells) (markAfter m (l .reply)) is in lineOf (l .reply) ++ r
+
+-- bytes behind them with which no instruction starts
+unfoldable pub lastLine : List ℕ → List ℕ
+lastLine [] = []
+lastLine (b ∷ bs) = refusedLine 10
