@@ -17,7 +17,7 @@ use Rattle.factory.specs.Core.{junction, iteOfSomes, notT, opposites, andT, orT
 use Rattle.factory.specs.Bitvectors.{bvnegT, bvappT, bvcmpT, bvnegoT, bvsoT, extendedTo, zeroExtendT}
 use Rattle.factory.specs.SetSteps.{isNil, setMember, setSubset, setInter, setIsEmpty, notEmpty, setIntersects, optionGet, recordGet}
 use Rattle.factory.specs.Helpers.{orSome, orNone, eqNone, isNoneIte, isNone, isSome, ifFalse, ifTrue, noneOr, guarded, ifSome, orIsNone, anyNoneOn, anyNone, ifAllSome}
-use Rattle.compiler.specs.Compiler.{compiledNot, negUnless, compiledNeg, compiledIsEmpty, getFields, ifAllGiven, compiledRecord, hasSome, compiledHasAttr, optioned, compiledGetAttr}
+use Rattle.compiler.specs.Compiler.{compiledNot, negUnless, compiledNeg, compiledIsEmpty, gotten, inner, ifAllGiven, recordIfAll, compiledRecord, hasSome, compiledHasAttr, optioned, compiledGetAttr}
 use Rattle.call.specs.Table.{table, rowOf, known, row}
 use Rattle.codec.specs.Digits.{digitsIn, digits}
 use Rattle.codec.specs.Numbers.{marked, groups, value, run as groupsRun, same as sameBytes, numberOf, numberAt}
@@ -74,10 +74,10 @@ examples =
     ∷ []
 
 examples-hold : holds examples ≡ true
-unfolding holds lines document version examples extendedTo notEmpty noneOr orIsNone negUnless ifAllGiven hasSome optioned known row refusal junction iteOfSomes orSome orNone nat2bv extract concat allOnes bvnot bvneg bvadd bvmul bvudiv bvurem bvshl bvlshr bvult top byTops bvsub bvsdiv bvsrem bvabs bvsmodOf bvsmod bvule byTop bvslt bvsle zeroExtend bv2int outside bvnego bvsaddo bvssubo bvsmulo bvappOf bvcmpOf bvsoOf every all any sameList evens odds field fieldD holdsField rising insert sorted putField fieldsOf mark over nodeAt positions keys fieldTypes same find putFound put cells parseOn parse used nodeHere ruled walked litRule freeRule fieldRun placed typeTest makerTest coreTest bvTest dataTest kindTest goodNode isFresh startsFresh goodNodes absent distinct wellFormed filled clear formed noneOf someOf setOf recordOf notT opposites andT orT implies eqSimplify eqT iteSimplify iteT uninterpreted bvnegT bvappT bvcmpT bvnegoT bvsoT zeroExtendT isNil setMember setSubset common setInter setIsEmpty setIntersects optionGet recordGet eqNone isNoneIte isNone isSome ifFalse ifTrue guarded ifSome anyNoneOn anyNone ifAllSome compiledNot compiledNeg compiledIsEmpty getFields compiledRecord compiledHasAttr compiledGetAttr table rowOf countOk tooMany sortOk sortsOk operandsOk firstOf tests fitted call callOn digitsIn digits marked groups value groupsRun sameBytes numberOf numberAt numberOnto first numbersAt after operands instructionAt text decimal lineField okLine refusedLine lineOf stepOn steps answers
+unfolding holds lines document version examples extendedTo notEmpty noneOr orIsNone negUnless ifAllGiven hasSome optioned known row refusal junction iteOfSomes orSome orNone nat2bv extract concat allOnes bvnot bvneg bvadd bvmul bvudiv bvurem bvshl bvlshr bvult top byTops bvsub bvsdiv bvsrem bvabs bvsmodOf bvsmod bvule byTop bvslt bvsle zeroExtend bv2int outside bvnego bvsaddo bvssubo bvsmulo bvappOf bvcmpOf bvsoOf every all any sameList evens odds field fieldD holdsField rising insert sorted putField fieldsOf mark over nodeAt positions keys fieldTypes same find putFound put cells parseOn parse used nodeHere ruled walked litRule freeRule fieldRun placed typeTest makerTest coreTest bvTest dataTest kindTest goodNode isFresh startsFresh goodNodes absent distinct wellFormed filled clear formed noneOf someOf setOf recordOf notT opposites andT orT implies eqSimplify eqT iteSimplify iteT uninterpreted bvnegT bvappT bvcmpT bvnegoT bvsoT zeroExtendT isNil setMember setSubset common setInter setIsEmpty setIntersects optionGet recordGet eqNone isNoneIte isNone isSome ifFalse ifTrue guarded ifSome anyNoneOn anyNone ifAllSome compiledNot compiledNeg compiledIsEmpty gotten inner recordIfAll compiledRecord compiledHasAttr compiledGetAttr table rowOf countOk tooMany sortOk sortsOk operandsOk firstOf tests fitted call callOn digitsIn digits marked groups value groupsRun sameBytes numberOf numberAt numberOnto first numbersAt after operands instructionAt text decimal lineField okLine refusedLine lineOf stepOn steps answers
 examples-hold = refl
 
 -- the first byte by byte: 'ok 12 16', 'ok 16 20', 'ok 20 24', 'refused 5'
 document-bytes : answers document ≡ 111 ∷ 107 ∷ 32 ∷ 49 ∷ 50 ∷ 32 ∷ 49 ∷ 54 ∷ 10 ∷ 111 ∷ 107 ∷ 32 ∷ 49 ∷ 54 ∷ 32 ∷ 50 ∷ 48 ∷ 10 ∷ 111 ∷ 107 ∷ 32 ∷ 50 ∷ 48 ∷ 32 ∷ 50 ∷ 52 ∷ 10 ∷ 114 ∷ 101 ∷ 102 ∷ 117 ∷ 115 ∷ 101 ∷ 100 ∷ 32 ∷ 53 ∷ 10 ∷ []
-unfolding document extendedTo notEmpty noneOr orIsNone negUnless ifAllGiven hasSome optioned known row refusal junction iteOfSomes orSome orNone nat2bv extract concat allOnes bvnot bvneg bvadd bvmul bvudiv bvurem bvshl bvlshr bvult top byTops bvsub bvsdiv bvsrem bvabs bvsmodOf bvsmod bvule byTop bvslt bvsle zeroExtend bv2int outside bvnego bvsaddo bvssubo bvsmulo bvappOf bvcmpOf bvsoOf every all any sameList evens odds field fieldD holdsField rising insert sorted putField fieldsOf mark over nodeAt positions keys fieldTypes same find putFound put cells parseOn parse used nodeHere ruled walked litRule freeRule fieldRun placed typeTest makerTest coreTest bvTest dataTest kindTest goodNode isFresh startsFresh goodNodes absent distinct wellFormed filled clear formed noneOf someOf setOf recordOf notT opposites andT orT implies eqSimplify eqT iteSimplify iteT uninterpreted bvnegT bvappT bvcmpT bvnegoT bvsoT zeroExtendT isNil setMember setSubset common setInter setIsEmpty setIntersects optionGet recordGet eqNone isNoneIte isNone isSome ifFalse ifTrue guarded ifSome anyNoneOn anyNone ifAllSome compiledNot compiledNeg compiledIsEmpty getFields compiledRecord compiledHasAttr compiledGetAttr table rowOf countOk tooMany sortOk sortsOk operandsOk firstOf tests fitted call callOn digitsIn digits marked groups value groupsRun sameBytes numberOf numberAt numberOnto first numbersAt after operands instructionAt text decimal lineField okLine refusedLine lineOf stepOn steps answers
+unfolding document extendedTo notEmpty noneOr orIsNone negUnless ifAllGiven hasSome optioned known row refusal junction iteOfSomes orSome orNone nat2bv extract concat allOnes bvnot bvneg bvadd bvmul bvudiv bvurem bvshl bvlshr bvult top byTops bvsub bvsdiv bvsrem bvabs bvsmodOf bvsmod bvule byTop bvslt bvsle zeroExtend bv2int outside bvnego bvsaddo bvssubo bvsmulo bvappOf bvcmpOf bvsoOf every all any sameList evens odds field fieldD holdsField rising insert sorted putField fieldsOf mark over nodeAt positions keys fieldTypes same find putFound put cells parseOn parse used nodeHere ruled walked litRule freeRule fieldRun placed typeTest makerTest coreTest bvTest dataTest kindTest goodNode isFresh startsFresh goodNodes absent distinct wellFormed filled clear formed noneOf someOf setOf recordOf notT opposites andT orT implies eqSimplify eqT iteSimplify iteT uninterpreted bvnegT bvappT bvcmpT bvnegoT bvsoT zeroExtendT isNil setMember setSubset common setInter setIsEmpty setIntersects optionGet recordGet eqNone isNoneIte isNone isSome ifFalse ifTrue guarded ifSome anyNoneOn anyNone ifAllSome compiledNot compiledNeg compiledIsEmpty gotten inner recordIfAll compiledRecord compiledHasAttr compiledGetAttr table rowOf countOk tooMany sortOk sortsOk operandsOk firstOf tests fitted call callOn digitsIn digits marked groups value groupsRun sameBytes numberOf numberAt numberOnto first numbersAt after operands instructionAt text decimal lineField okLine refusedLine lineOf stepOn steps answers
 document-bytes = refl

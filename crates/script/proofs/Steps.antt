@@ -14,7 +14,7 @@ use Rattle.codec.proofs.Choices.{cond-else}
 use Rattle.codec.proofs.Listed.{instruction-read}
 use Rattle.codec.proofs.Answers.{refused-most}
 use Rattle.call.specs.Call.{callOn}
-use Rattle.call.proofs.Kept.{Small, kept}
+use Rattle.call.proofs.Kept.{Small, kept, small}
 use Rattle.script.specs.Script.{lent, State, Step, wrote, lineOf, called, stepOn, step, onto, steps, ran}
 use Rattle.script.proofs.Short.{three-bytes, line-short}
 
@@ -74,9 +74,9 @@ module _ (bytes : List ℕ) (s : State) (end : ℕ) (w : Stands bytes s end) (mo
   step-reads : (l : Reading) → instructionAt bytes (s .at) ≡ l → Goes bytes s end (stepOn (length bytes) s l)
   unfolding stepOn
   step-reads (whole i behind) e =
-      let k = kept (s .cells) (s .mark) i (instruction-read bytes (s .at) i behind .0 e .counted) (w .arena) in
+      let k = kept (s .cells) (s .mark) i (λ h. instruction-read bytes (s .at) i behind .0 e .counted) (w .arena) in
       let b = three-bytes bytes (s .at) i behind e in
-      let h = line-short (callOn (s .cells) (s .mark) i .reply) (subst (λ (n : ℕ). Small n (callOn (s .cells) (s .mark) i .reply)) (w .long) (k .small)) in
+      let h = line-short (callOn (s .cells) (s .mark) i .reply) (subst (λ (n : ℕ). Small n (callOn (s .cells) (s .mark) i .reply)) (w .long) (small k)) in
       let f = w .few more in
       record {
         stands = record { arena = k .arena; long = k .long ∙ w .long; few = λ _. omega arith };
