@@ -19,7 +19,7 @@ use Rattle.instruction.specs.Instruction.{Instr}
 use Rattle.call.specs.Table.{Shape, fixed, pairs, run, Row, table, rowOf, row}
 use Rattle.call.specs.Senses.{Sense, senses, senseOf}
 use Rattle.call.specs.Call.{countOk, tooMany, Test, test, firstOf, tests, refusal, ok, build, Lent, callOn}
-use Rattle.call.specs.Promises.{refusals, markAfter, After, Meant, TypeBuilt}
+use Rattle.call.specs.Promises.{refusals, After, Meant, TypeBuilt}
 use Rattle.call.proofs.Fits.{passed, fixed-count}
 use Rattle.call.proofs.Demand1.{Outcome, refuses, builds, outcome, differ}
 use Rattle.call.proofs.Demand3.{has-sense, demand-3, demand-types, build-wf}
@@ -105,7 +105,6 @@ module _ (c : List ℕ) (m : ℕ) (i : Instr) (h : i .count ≤ 257 → length (
           term-below (o .arena) (o .at) (demand-3 a (A .below .well) i (h (few a i r)) k r (s .0) (s .1) .isterm)
 
   pub kept : After c m (callOn c m i)
-  unfolding markAfter
   kept = go (outcome c m i (formed c m) refl)
     where
       go : Outcome c m i → After c m (callOn c m i)

@@ -49,7 +49,7 @@ pub record Answered (c : List ℕ) (m : ℕ) (i : Instr) : Type 0 where
 -- ---- what is left
 
 -- the mark after an answer: a refusal leaves the mark that was
-unfoldable pub markAfter : ℕ → Reply → ℕ
+abbrev pub markAfter : ℕ → Reply → ℕ
 markAfter m (ok p n) = n
 markAfter m (refused k) = m
 
