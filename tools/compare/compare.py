@@ -181,7 +181,8 @@ class Comparison:
     def report(self):
         """Prints the counts, and answers the exit status."""
         groups = ", ".join(f"{name} {sum(self.same[operation] for operation in group)}" for name, group in scripts.GROUPS.items())
-        print(f"compare: {self.same.total()} instructions of {self.scripts} scripts give the original's term ({groups}); known differences {self.known}; others {self.different}")
+        print(f"compare: {self.same.total()} instructions of {self.scripts} scripts give the original's term ({groups});", end=" ")
+        print(f"known differences {self.known}; others {self.different}")
         return 1 if self.different else 0
 
 
@@ -264,20 +265,26 @@ def compared_with_stored(program):
 # ---- the command
 
 
+def run_quietly(command, **where):
+    """Runs a command; what it writes is in the answer's stdout."""
+    return subprocess.run(command, stdin=subprocess.DEVNULL, stdout=subprocess.PIPE, stderr=subprocess.STDOUT, text=True, **where)
+
+
 def oracle_status():
     """0 where the oracle stands, 77 where it cannot be built; says so in one line."""
-    built = subprocess.run([ORACLE / "build.sh"], stdin=subprocess.DEVNULL, stdout=subprocess.PIPE, stderr=subprocess.STDOUT, text=True)
+    built = run_quietly([ORACLE / "build.sh"])
     print(("not compared with the original: " if built.returncode == 77 else "") + built.stdout.strip(), flush=True)
     return built.returncode
 
 
 def program_status(program):
+    """The same of our program, which is built where it is the repository's own."""
     if program != ROOT / "target/bin/cells":
         return 0
     if not shutil.which("rt"):
         print("not compared with the original: there is no rt")
         return 77
-    built = subprocess.run(["rt", "check", "cells"], cwd=ROOT, stdin=subprocess.DEVNULL, stdout=subprocess.PIPE, stderr=subprocess.STDOUT, text=True)
+    built = run_quietly(["rt", "check", "cells"], cwd=ROOT)
     if built.returncode != 0:
         print(built.stdout.strip())
     return built.returncode

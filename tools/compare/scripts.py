@@ -336,24 +336,24 @@ def set_scripts(element):
 
 
 def record_scripts(t):
-    absent = [attribute for attribute in (0, 4, LARGEST - 1, LARGEST) if attribute not in dict(t[1])]
     script = Script()
     g = script.variable(BOOL, 7)
     literals = [ground(script, t, number) for number in (0, 1)]
     variables = [script.variable(t, number) for number in (0, 1)]
     fields = [script.variable(field, 2) for _, field in t[1]]
-    mixed = [script.do_fields(15, [(attribute, k) for (attribute, _), k in zip(t[1], fields)])]
-    mixed.append(script.do_fields(15, [(attribute, ground(script, field, 0)) for attribute, field in t[1][:1]] + [(attribute, k) for (attribute, _), k in zip(t[1][1:], fields[1:])]))
+    attributes = [attribute for attribute, _ in t[1]]
+    mixed = [script.do_fields(15, list(zip(attributes, fields)))]
+    mixed.append(script.do_fields(15, list(zip(attributes, [ground(script, t[1][0][1], 0), *fields[1:]]))))
     others = [script.do(25, g, variables[0], literals[0]), script.do(25, g, literals[0], literals[1]), script.applied(t, g)]
     others.append(script.do(55, script.variable(option(t), 3)))
     terms = [*literals, *variables, *mixed, *others]
     for x in terms:
-        for attribute, field in t[1]:
+        for attribute in attributes:
             for operation in (56, 74, 75):
                 got = script.do(operation, x, parameter=attribute)
                 if got is not None and script.types[got][0] == "Opt":
                     script.do(60, got)
-        for attribute in absent:
+        for attribute in sorted({0, 4, LARGEST - 1, LARGEST} - set(attributes)):
             script.do(74, x, parameter=attribute)
         for y in terms:
             script.do(24, x, y)
@@ -362,31 +362,32 @@ def record_scripts(t):
 
 
 def bitvec_scripts(numbers, width):
-    """The cases of tools/vectors at and around the edges, and every mixture of literals and variables."""
+    """The cases of tools/vectors at and around the edges, and every mixture of a literal and variables."""
     t = bitvec(width)
     binary = [*range(31, 45), 46, 47, 48]
-    for operations in (binary[:6], binary[6:12], binary[12:], (30, 45, 49)):
+    for operations in (binary[:6], binary[6:12], binary[12:], [30, 45, 49]):
         script = Script()
-        a, b = script.variable(t, 0), script.variable(t, 1)
+        a, b, x = script.variable(t, 0), script.variable(t, 1), script.literal(t, min(2**width - 1, LONGEST_SHIFT))
         for operation in operations:
             chosen = cases.at_edges(operation, width, LONGEST_SHIFT) | cases.chosen(numbers, operation, width, 6, LONGEST_SHIFT)
             for _, _, first, second in sorted(chosen):
-                x = script.literal(t, first % 2**width)
+                literal = script.literal(t, first % 2**width)
                 if operation == cases.EXTEND:
-                    script.do(49, script.do(49, x, parameter=second), parameter=0)
-                    script.do(49, script.do(49, a, parameter=second), parameter=0)
+                    for k in (literal, a):
+                        script.do(operation, script.do(operation, k, parameter=second), parameter=0)
                 elif operation in cases.UNARY:
-                    script.do(operation, x)
+                    script.do(operation, literal)
                 else:
-                    script.do(operation, x, script.literal(t, second))
-            x = script.literal(t, min(2**width - 1, LONGEST_SHIFT))
-            for first, second in ((a, x), (x, a), (a, a), (a, b)):
-                if operation in cases.UNARY:
-                    script.do(operation, script.do(operation, first)) if operation == 30 else script.do(operation, first)
-                elif operation != cases.EXTEND:
+                    script.do(operation, literal, script.literal(t, second))
+            if operation == 45:
+                script.do(operation, a)
+            elif operation == 30:
+                script.do(operation, script.do(operation, a))
+            elif operation != cases.EXTEND:
+                for first, second in ((a, x), (x, a), (a, a), (a, b)):
                     script.do(operation, first, second)
         if width == 64:
-            for k in [k for k in script.terms[t]][:40]:
+            for k in script.terms[t][:40]:
                 script.do(71, k)
         yield script
 
@@ -409,8 +410,8 @@ def long_scripts(numbers):
     script = Script(10 * LONGEST_TEXT)
     literals = [script.literal(wide, 37 * number) for number in range(256)]
     few = [script.literal(narrow, number) for number in range(8)]
-    sets = [script.set(wide, literals), script.set(wide, literals[::-1]), script.set(wide, literals[1:]), script.set(wide, literals[::2])]
-    sets.append(script.set(wide, [script.variable(wide, 0), *literals[1:]]))
+    lists = [literals, literals[::-1], literals[1:], literals[::2], [script.variable(wide, 0), *literals[1:]]]
+    sets = [script.set(wide, members) for members in lists]
     for x in sets:
         for y in sets:
             for operation in (24, 51, 52, 54):
@@ -435,7 +436,8 @@ def long_scripts(numbers):
     script = Script(10 * LONGEST_TEXT)
     values = [script.variable(BOOL, number) for number in range(64)]
     options = [script.do(13, k) for k in values[:32]] + [script.variable(option(BOOL), number) for number in range(32)]
-    for attributes in (range(64), range(63, -1, -1), [3 * (number % 5) for number in range(64)], [LARGEST - number for number in range(64)]):
+    repeated = [3 * (number % 5) for number in range(64)]
+    for attributes in (range(64), range(63, -1, -1), repeated, range(LARGEST, LARGEST - 64, -1)):
         whole = script.do_fields(15, list(zip(attributes, values)))
         script.do_fields(73, list(zip(attributes, options)))
         for attribute in (attributes[0], attributes[63], attributes[20]):
@@ -521,7 +523,8 @@ class RandomScript(Script):
         return {"Bool": BOOL, "BV": bitvec(self.choice(self.widths)), "Opt": option(inner), "Set": set_of(inner)}[kind]
 
     def any_type(self, sets=True):
-        return self.kind_of_type(self.choice(("Bool", "BV", "Opt", "Opt", "Set", "Rec") if sets else ("Bool", "BV", "BV", "Opt", "Rec")), sets)
+        kinds = ("Bool", "BV", "Opt", "Opt", "Set", "Rec") if sets else ("Bool", "BV", "BV", "Opt", "Rec")
+        return self.kind_of_type(self.choice(kinds), sets)
 
     def term(self, t):
         """A term of a type: an earlier one, the shorter of two, or a new one."""
