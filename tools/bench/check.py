@@ -18,6 +18,7 @@ import time
 HERE = pathlib.Path(__file__).resolve().parent
 ROOT = HERE.parents[1]
 PAGE = ROOT / "docs" / "SCRIPTS.md"
+EXAMPLE = ROOT / "examples" / "version.hex"
 TABLES = [(ROOT / "crates/script/proofs/Examples.antt", "examples"), (ROOT / "crates/script/proofs/Damaged.antt", "damaged")]
 
 LONGEST = 65_536
@@ -316,6 +317,7 @@ def all_checks(program):
     if first != (DOCUMENT, DOCUMENT_LINES):
         check.differ("docs/SCRIPTS.md", first[0], lines_text(DOCUMENT_LINES), lines_text(first[1]))
     check.equal("docs/SCRIPTS.md", *version)
+    check.equal("examples", bytes.fromhex(re.sub(r"#.*", "", EXAMPLE.read_text())), version[1])
     for path, name in TABLES:
         for data, lines in table_rows(path, name):
             check.equal(f"table {name}", data, lines)
