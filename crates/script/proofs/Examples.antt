@@ -26,15 +26,15 @@ use Rattle.codec.specs.Lines.{text, decimal, field as lineField, okLine, refuse
 use Rattle.call.specs.Call.{Reply, ok, refused, countOk, tooMany, sortOk, sortsOk, operandsOk, firstOf, tests, refusal, fitted, call, callOn}
 use Rattle.script.specs.Script.{lineOf, stepOn, steps, answers, cellsAfter}
 
-unfoldable lines : List Reply → List ℕ
+unfoldable pub lines : List Reply → List ℕ
 lines [] = []
 lines (r ∷ rs) = lineOf r ++ lines rs
 
-data Example : Type 0 where
+pub data Example : Type 0 where
   example : List ℕ → List Reply → Example
 
 -- the answers to a script are the lines of these replies
-unfoldable holds : List Example → Bool
+unfoldable pub holds : List Example → Bool
 holds [] = true
 holds (example bytes rs ∷ es) = sameBytes (answers bytes) (lines rs) && holds es
 
