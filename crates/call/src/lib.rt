@@ -38,8 +38,15 @@ fn built(cells: &mut [u64], mark: usize, op: u64, par: u64, xs: &[u64]) -> Answe
     }
 }
 
-// The numbers of an instruction, xs as many operands as its array holds of them.
-fn answered(cells: &mut [u64], mark: usize, op: u64, par: u64, count: u64, xs: &[u64]) -> Answer
+// The numbers of an instruction, on an arena known to be well formed: xs has as many operands as the count says, or the count is above 257.
+pub fn call_listed(
+    cells: &mut [u64],
+    mark: usize,
+    op: u64,
+    par: u64,
+    count: u64,
+    xs: &[u64],
+) -> Answer
     requires { ⌜ IsArena (now cells) mark ⌝ }
     requires { ⌜ Held count (now xs) ⌝ }
     ensures { λ r. ⌜ Answered (now (cells .entry)) mark (instr op par count (now (xs .entry))) r (now (cells .exit)) ⌝ }
@@ -65,7 +72,7 @@ pub fn call_known(cells: &mut [u64], mark: usize, instruction: Instruction) -> A
 {
     let n = held(instruction.count);
     let operands = instruction.operands;
-    answered(
+    call_listed(
         cells,
         mark,
         instruction.operation,

@@ -1,4 +1,4 @@
--- `call::answered` meets its contract. Assumes nothing.
+-- `call::call_listed` meets its contract. Assumes nothing.
 use borrow.Author.Needs.{needs}
 use mathlib.Core.Path.{sym, ap, _∙_}
 use Rattle.call.specs.Call.{Lent}
@@ -6,8 +6,8 @@ use Rattle.call.specs.Forms.{instr}
 use Rattle.call.proofs.Entry.{by-refusal, counted}
 use Rattle.arena.specs.Cells.{used}
 use borrow.Author.Needs.{needs}
-use Rattle.call.proofs.answered.Statement.{statement}
-use Rattle.call.proofs.answered.Tie as tie
+use Rattle.call.proofs.call_listed.Statement.{statement}
+use Rattle.call.proofs.call_listed.Tie as tie
 
 refusal-requires : tie.Need-refusal-requires
 refusal-requires c κs = c .before .before .before .pre .0 .below
@@ -29,8 +29,8 @@ same-length-2 c = search needs
 returns-2 : tie.Need-returns-2
 returns-2 c = rw (sym (counted (used (c .before .before .before .before .before .before .before .before .before .args .cells .now) (c .before .before .before .before .before .before .before .before .before .args .mark)) (c .before .before .before .before .before .before .before .before .before .args .op) (c .before .before .before .before .before .before .before .before .before .args .par) (c .before .before .before .before .before .before .before .before .before .args .count) (c .before .before .before .before .before .before .before .before .before .args .xs .now) (c .before .before .before .before .before .before .before .before .before .pre .1) (sym (c .before .before .before .before .before .refusal .ensures) ∙ c .before .before .before .before .if1 .left) .0)) (c .before .before .built .ensures)
 
-pub answered-spec : {M : Type 1} → statement M
-answered-spec =
+pub call-listed-spec : {M : Type 1} → statement M
+call-listed-spec =
     tie.close
     (tie.spec
     refusal-requires

@@ -1,0 +1,2 @@
+-- What is told, given and answered where something else is lent.
+pub mod Giving
