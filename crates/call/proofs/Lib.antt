@@ -1,4 +1,4 @@
--- What is accepted, the laws of the table and the demands; the table by number and the tests' order, for the code; document 01's examples.
+-- What is accepted, the laws of the table and the demands; the table by number and the tests' order, for the code; what the contract promises, and that it allows one result; document 01's examples.
 pub mod First
 pub mod Fits
 pub mod Rows
@@ -11,4 +11,6 @@ pub mod Order
 pub mod Kept
 pub mod Dispatch
 pub mod Entry
+pub mod Once
+pub mod Promise
 pub mod Examples
