@@ -12,6 +12,7 @@ import signal
 import socket
 import subprocess
 import sys
+import tempfile
 import threading
 import time
 
@@ -367,8 +368,7 @@ def taken(program, data, size, stops, small_pipe):
 def ways(check, scripts):
     """The same scripts by files, pipes and sockets, in pieces and slowly."""
     for data, lines in scripts:
-        with open("/dev/shm/bench-check" if os.path.isdir("/dev/shm") else "/tmp/bench-check", "w+b") as file:
-            os.unlink(file.name)
+        with tempfile.TemporaryFile() as file:
             file.write(data)
             file.flush()
             file.seek(0)
