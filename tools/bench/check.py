@@ -12,6 +12,7 @@ import signal
 import socket
 import subprocess
 import sys
+import tempfile
 import threading
 import time
 
@@ -218,6 +219,83 @@ def full_arena():
     return data + b"\x80" * rest, lines + ["ok 0 8192"] * more + [BAD] * (rest > 0)
 
 
+# ---- operations one by one
+
+
+def said(operation, parameter, *operands):
+    return b"".join(map(encoded, (operation, parameter, len(operands), *operands)))
+
+
+def pairs(first, *rest):
+    """The attributes `first`, each with the same position behind it."""
+    return [x for attribute in first for x in (attribute, *rest)]
+
+
+# Operations that take a parameter, and those that take lists: of single operands or of pairs.
+WITH_PARAMETER = {2, 10, 11, 16, 26, 49, 56, 74, 75}
+LISTS = {14, 65, 66}
+PAIR_LISTS = {5, 15, 73}
+UNKNOWN = [0, *range(6, 10), *range(17, 20), *range(27, 30), *range(57, 60), *range(67, 70), *range(76, 300), 2**32 + 20, 2**64 - 1]
+
+
+def operations(check):
+    """Behind a few types and variables: each operation accepted as document 01 lists it, and refused with an operand more or less or with a
+    parameter that it does not take; the limits on both sides."""
+    data = b""
+
+    def added(*instruction):
+        nonlocal data
+        data += said(*instruction)
+        return int(check.run(data).decode().splitlines()[-1].split(" ")[1])
+
+    def answered(start, *instruction):
+        script = data + said(*instruction)
+        got = check.run(script)
+        check.runs["operations"] += 1
+        if not got.decode().splitlines()[-1].startswith(start):
+            check.differ("operations", script, start.encode(), got)
+
+    bool_type, wide, byte = 0, added(2, 64), added(2, 8)
+    option, set_type, record = added(3, 0, bool_type), added(4, 0, wide), added(5, 0, 1, bool_type, 2, wide)
+    set_option = added(3, 0, set_type)
+    optional = added(5, 0, 1, option, 7, bool_type)
+    g, a, b, n, o, s, t, r, q = (
+        added(16, k, of) for k, of in enumerate((bool_type, wide, wide, byte, option, set_type, set_type, record, optional))
+    )
+    good = [(1, 0), (2, 3), (3, 0, wide), (4, 0, bool_type), (5, 0, 3, bool_type, 9, wide), (5, 0)]
+    good += [(10, 0), (10, 1), (11, 200, wide), (12, 0, wide), (13, 0, a), (14, 0, wide), (14, 0, wide, b, a, b), (15, 0), (15, 0, 1, a, 1, b), (16, 77, record)]
+    good += [(20, 0, g), (21, 0, g, 4), (22, 0, g, 4), (23, 0, g, 4), (24, 0, a, b), (25, 0, g, a, b), (26, 5, bool_type, a), (30, 0, a), (45, 0, a)]
+    good += [(k, 0, a, b) for k in (*range(31, 45), 46, 47, 48)]
+    good += [(49, 3, n), (50, 0, a, s), (51, 0, s, t), (52, 0, s, t), (53, 0, s), (54, 0, s, t), (55, 0, o), (56, 2, r)]
+    good += [(60, 0, o), (61, 0, o), (62, 0, g, a), (63, 0, g, a), (64, 0, o, a), (65, 0), (65, 0, o, o), (66, 0, a), (66, 0, a, o, o)]
+    good += [(70, 0, g), (71, 0, a), (72, 0, s), (73, 0), (73, 0, 1, o, 2, o), (74, 1, r), (74, 9, r), (74, 1, q), (75, 1, r), (75, 1, q)]
+    for one in good:
+        operation, parameter, *operands = one
+        answered("ok ", *one)
+        if operation not in WITH_PARAMETER:
+            answered("refused 2", operation, 1, *operands)
+        if operation in PAIR_LISTS:
+            answered("refused 2", *one, 3)
+        elif operation not in LISTS:
+            answered("refused 2", *one, 0)
+            if operands:
+                answered("refused 2", *one[:-1])
+    for unknown in UNKNOWN:
+        answered("refused 2", unknown, 0, g)
+    for start, *one in [
+        *(("refused 2", k, 0) for k in (14, 66)),
+        ("ok ", 14, 0, 0, *[4] * 256), ("ok ", 65, 0, *[o] * 256), ("refused 3", 65, 0, *[o] * 257), ("ok ", 66, 0, g, *[o] * 256),
+        ("ok ", 5, 0, *pairs(range(64), 0)), ("refused 3", 5, 0, *pairs(range(65), 0)), ("ok ", 15, 0, *pairs([1] * 64, 4)),
+        ("refused 3", 15, 0, *pairs([1] * 65, 4)), ("ok ", 73, 0, *pairs([1] * 64, o)), ("refused 3", 73, 0, *pairs([1] * 65, o)),
+        ("refused 4", 20, 0, 0), ("refused 4", 20, 0, 5), ("refused 4", 3, 0, 4), ("refused 4", 20, 0, 2**64 - 1),
+        ("refused 5", 4, 0, set_type), ("refused 5", 4, 0, set_option), ("refused 5", 14, 0, set_option), ("refused 5", 71, 0, n), ("refused 5", 31, 0, a, n),
+        ("refused 6", 2, 0), ("ok ", 2, 1), ("ok ", 2, 64), ("refused 6", 2, 65), ("ok ", 49, 0, n), ("ok ", 49, 56, n), ("refused 6", 49, 57, n),
+        ("refused 6", 49, 2**64 - 1, n), ("refused 7", 10, 2), ("ok ", 11, 255, byte), ("refused 7", 11, 256, byte), ("ok ", 16, 2**32 - 1, 0),
+        ("refused 7", 16, 2**32, 0), ("refused 7", 5, 0, 2, 0, 1, 0), ("refused 7", 5, 0, 2, 0, 2, 0), ("refused 8", 56, 9, r), ("refused 8", 75, 9, r),
+    ]:
+        answered(start, *one)
+
+
 # ---- how the bytes come and go
 
 
@@ -290,8 +368,7 @@ def taken(program, data, size, stops, small_pipe):
 def ways(check, scripts):
     """The same scripts by files, pipes and sockets, in pieces and slowly."""
     for data, lines in scripts:
-        with open("/dev/shm/bench-check" if os.path.isdir("/dev/shm") else "/tmp/bench-check", "w+b") as file:
-            os.unlink(file.name)
+        with tempfile.TemporaryFile() as file:
             file.write(data)
             file.flush()
             file.seek(0)
@@ -330,6 +407,7 @@ def all_checks(program):
     for data, lines in long:
         check.equal("long", data, lines)
     check.equal("full arena", *full_arena())
+    operations(check)
     ways(check, [first, version, (b"", []), long[1], long[5], full_arena()])
     counts = ", ".join(f"{name} {count}" for name, count in check.runs.items())
     print(f"bench: {check.runs.total()} runs ({counts}); differences {check.different}")
