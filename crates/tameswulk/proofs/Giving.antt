@@ -2,9 +2,11 @@
 use mathlib.Core.Path.{_≡_, refl, sym, ap, _∙_, subst}
 use Prim.Native.Nat.{ℕ, zero, suc, _≤_, _<_}
 use native.Mathlib.Omega.{arith}
-use mathlib.Core.Bool.{false}
+use mathlib.Core.Bool.{Bool, true, false}
 use mathlib.Core.List.{List, [], _∷_}
 use lib.ListN.{length, set}
+use lib.Dec.{leb}
+use borrow.Author.Tests.{leb-true, leb-false}
 use Rattle.arena.specs.WellFormed.{formed}
 use Rattle.instruction.specs.Instruction.{Instr}
 use Rattle.call.specs.Call.{Reply, refused, Lent, callOn}
@@ -14,6 +16,7 @@ use Rattle.call.specs.declared.Answer.the-variants.{Accepted, Refused}
 use Rattle.call.proofs.Entry.{not-formed}
 use Rattle.script.specs.Script.{lent}
 use Rattle.script.specs.Running.{room, Ran}
+use Rattle.script.proofs.Going.{ran-one}
 use Rattle.tameswulk.specs.Library.{noted, Tells, Gives, Lends, unfit, Scripted}
 
 -- ---- two numbers, as far as there is room
@@ -74,3 +77,24 @@ module _ {bytes c out : List ℕ} where
 
   pub scripted : {r : ℕ} {c' out' : List ℕ} → Lends c out → Ran bytes c out r c' out' → Scripted bytes c out r c' out'
   scripted l x = record { lends = λ _. x; other = λ n. absurd (n l) }
+
+-- what the promise allows is one
+module _ {bytes c out : List ℕ} {r s : ℕ} {c' d out' back : List ℕ} (x : Scripted bytes c out r c' out') (y : Scripted bytes c out s d back) where
+  abbrev One : Type 0
+  One = (r ≡ s) × (c' ≡ d) × (out' ≡ back)
+
+  one-other : (Lends c out → ⊥) → One
+  one-other n = let a = x .other n in let b = y .other n in (a .0 ∙ sym (b .0), a .1 ∙ sym (b .1), a .2 ∙ sym (b .2))
+
+  pub scripted-one : One
+  scripted-one = go (leb (length c) lent) refl (leb lent (length c)) refl (leb room (length out)) refl
+    where
+      go : (i : Bool) → leb (length c) lent ≡ i → (j : Bool) → leb lent (length c) ≡ j → (k : Bool) → leb room (length out) ≡ k → One
+      go true e true f true g =
+          let a = leb-true (length c) lent e in
+          let b = leb-true lent (length c) f in
+          let l : Lends c out = (omega arith, leb-true room (length out) g) in
+          ran-one (x .lends l) (y .lends l)
+      go true e true f false g = let z = leb-false room (length out) g in one-other (λ h. (let k = h .1 in absurd (omega arith)))
+      go true e false f k g = let z = leb-false lent (length c) f in one-other (λ h. (let k = h .0 in absurd (omega arith)))
+      go false e j f k g = let z = leb-false (length c) lent e in one-other (λ h. (let k = h .0 in absurd (omega arith)))
