@@ -52,9 +52,9 @@ promised c m i {r} {c'} h e =
       unchanged = λ n q. e .1 ∙ E .unchanged n (says q);
       accepted = λ q. let a = E .accepted q in (reply-once r (Accepted _ _) (e .0 ∙ ap (λ (l : Lent). l .reply) a), e .1 ∙ ap (λ (l : Lent). l .cells) a);
       arena = λ p n q.
-      let A = accepted-formed c m i p n (says q) in
-      let K = subst (After c m) (λ j. lent (sym (e .0) j) (sym (e .1) j)) (kept c m i h A) in
-      (A, (subst (λ (x : Answer). IsArena c' (markAfter m (replyOf x))) q (K .arena), K .long));
+          let A = accepted-formed c m i p n (says q) in
+          let K = subst (After c m) (λ j. lent (sym (e .0) j) (sym (e .1) j)) (kept c m i h A) in
+          (A, (subst (λ (x : Answer). IsArena c' (markAfter m (replyOf x))) q (K .arena), K .long));
       meant = λ p n q k s t. let A = accepted-formed c m i p n (says q) in subst (λ (x : List ℕ). Meant (used c m) i s (out (used x n) p)) (sym (e .1)) (demand-3-cells c m i h A k p n (says q) s t);
       types = λ p n q k. let A = accepted-formed c m i p n (says q) in subst (λ (x : List ℕ). TypeBuilt (used c m) (out (used x n) p)) (sym (e .1)) (demand-types-cells c m i h A k p n (says q));
     }
