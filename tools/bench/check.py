@@ -19,6 +19,8 @@ import time
 HERE = pathlib.Path(__file__).resolve().parent
 ROOT = HERE.parents[1]
 PAGE = ROOT / "docs" / "SCRIPTS.md"
+# runs a proved program on any processor
+RUN = ROOT / "tools/run"
 EXAMPLE = ROOT / "examples" / "version.hex"
 TABLES = [(ROOT / "crates/script/proofs/Examples.antt", "examples"), (ROOT / "crates/script/proofs/Damaged.antt", "damaged")]
 
@@ -87,7 +89,7 @@ class Check:
         self.different = 0
 
     def run(self, data):
-        return subprocess.run([self.program], input=data, stdout=subprocess.PIPE, timeout=PATIENCE, check=True).stdout
+        return subprocess.run([RUN, self.program], input=data, stdout=subprocess.PIPE, timeout=PATIENCE, check=True).stdout
 
     def differ(self, name, data, expected, got):
         self.different += 1
@@ -134,8 +136,8 @@ def table_rows(path, name):
 def page_scripts():
     """The scripts of the page: the first with the lines below it, and the version rule with the answers of its tables."""
     page = PAGE.read_text()
-    commands = [bytes.fromhex(c.replace("\\x", "")) for c in re.findall(r"printf '((?:\\x[0-9a-f]{2})+)' \| target/bin/bench", page)]
-    below = re.search(r"target/bin/bench\n((?:    (?:ok|refused) .*\n)+)", page)[1].split("\n")
+    commands = [bytes.fromhex(c.replace("\\x", "")) for c in re.findall(r"printf '((?:\\x[0-9a-f]{2})+)' \| tools/run bench", page)]
+    below = re.search(r"tools/run bench\n((?:    (?:ok|refused) .*\n)+)", page)[1].split("\n")
     rows = re.findall(r"^\| `([0-9a-f ]+)` \| [^|]* \| `((?:ok|refused) [0-9 ]+)` \|", page, re.M)
     version = b"".join(bytes.fromhex(row[0]) for row in rows)
     if len(commands) != 2 or commands[1] != version or any(len(instructions(bytes.fromhex(row[0]))[0]) != 1 for row in rows):
@@ -308,7 +310,7 @@ def fed(program, data, sizes, pauses, made_by):
         ours, theirs = socket.socketpair()
         read_end = theirs.detach()
         send, close = (lambda piece: ours.send(piece)), ours.close
-    process = subprocess.Popen([program], stdin=read_end, stdout=subprocess.PIPE)
+    process = subprocess.Popen([RUN, program], stdin=read_end, stdout=subprocess.PIPE)
     os.close(read_end)
 
     def feed():
@@ -337,7 +339,7 @@ def ended(process, out, feeder):
 def taken(program, data, size, stops, small_pipe):
     """The output where it is read slowly in small pieces, from a pipe that holds little; the program is stopped and let go on `stops` times
     while it writes, which cuts a write short."""
-    process = subprocess.Popen([program], stdin=subprocess.PIPE, stdout=subprocess.PIPE)
+    process = subprocess.Popen([RUN, program], stdin=subprocess.PIPE, stdout=subprocess.PIPE)
     if small_pipe:
         fcntl.fcntl(process.stdout.fileno(), fcntl.F_SETPIPE_SZ, 4096)
 
@@ -372,7 +374,7 @@ def ways(check, scripts):
             file.write(data)
             file.flush()
             file.seek(0)
-            got = subprocess.run([check.program], stdin=file, stdout=subprocess.PIPE, timeout=PATIENCE, check=True).stdout
+            got = subprocess.run([RUN, check.program], stdin=file, stdout=subprocess.PIPE, timeout=PATIENCE, check=True).stdout
             check.equal("from a file", data, lines, got)
         for made_by in ("pipe", "socket"):
             for sizes in ([1], [7], [1, 4096, 3], [65_535, 1]):

@@ -28,6 +28,8 @@ HERE = pathlib.Path(__file__).resolve().parent
 ROOT = HERE.parents[1]
 ORACLE = ROOT / "oracle"
 STORED = HERE / "stored.txt.gz"
+# runs a proved program on any processor
+RUN = ROOT / "tools/run"
 
 SEED = 20_261_201
 CHECKED = 2_500
@@ -60,7 +62,7 @@ def asked_of_ours(program, batch):
     for script in batch:
         data = b"".join(map(scripts.line_bytes, script.lines))
         stream += struct.pack("<I", len(data)) + data
-    run = subprocess.run([program], input=bytes(stream), stdout=subprocess.PIPE, check=True)
+    run = subprocess.run([RUN, program], input=bytes(stream), stdout=subprocess.PIPE, check=True)
     answers = iter(run.stdout.decode().splitlines())
     taken = []
     for script in batch:
