@@ -1,6 +1,6 @@
 #!/usr/bin/env python3
 """Runs the program bench from outside: what it is given, how its bytes come, and how its lines are taken. README.md beside it says what is
-compared. `--program PATH` runs another program than target/bin/bench. Reads bytes by a reading of its own, and nothing of the crates' code."""
+compared. `--program PATH` runs that program as it stands; without it, target/bin/bench is proved and built. Reads bytes by a reading of its own, and nothing of the crates' code."""
 import argparse
 import collections
 import fcntl
@@ -22,7 +22,7 @@ PAGE = ROOT / "docs" / "SCRIPTS.md"
 # runs a proved program on any processor
 RUN = ROOT / "tools/run"
 EXAMPLE = ROOT / "examples" / "version.hex"
-TABLES = [(ROOT / "crates/script/proofs/Examples.antt", "examples"), (ROOT / "crates/script/proofs/Damaged.antt", "damaged")]
+TABLES = [(ROOT / "crates/script/proofs/Examples.antt", "examples"), (ROOT / "crates/bench/proofs/Damaged.antt", "damaged")]
 
 LONGEST = 65_536
 BAD = "refused 10"
@@ -418,9 +418,10 @@ def all_checks(program):
 
 def main():
     options = argparse.ArgumentParser(description="Runs the program bench from outside.")
-    options.add_argument("--program", type=pathlib.Path, default=ROOT / "target/bin/bench")
+    options.add_argument("--program", type=pathlib.Path)
     program = options.parse_args().program
-    if program == ROOT / "target/bin/bench":
+    if not program:
+        program = ROOT / "target/bin/bench"
         built = subprocess.run(
             ["rt", "check", "bench"], cwd=ROOT, stdin=subprocess.DEVNULL, stdout=subprocess.PIPE, stderr=subprocess.STDOUT, text=True
         )

@@ -6,7 +6,7 @@
     compare.py --stored                 the stored scripts, with the answers that the original gave
     compare.py --store                  asks the original again for the stored answers
 
-`--program PATH` runs another program than target/bin/cells. Exit status 77: the original or the program is not to be had here.
+`--program PATH` runs that program as it stands; without it, target/bin/cells is proved and built. Exit status 77: the original or the program is not to be had here.
 """
 
 import argparse
@@ -280,8 +280,8 @@ def oracle_status():
 
 
 def program_status(program):
-    """The same of our program, which is built where it is the repository's own."""
-    if program != ROOT / "target/bin/cells":
+    """The same of our program, which is proved and built where none is named."""
+    if program:
         return 0
     if not shutil.which("rt"):
         print("not compared with the original: there is no rt")
@@ -312,17 +312,18 @@ def main():
         what.add_argument(name, action="store_true")
     what.add_argument("--seed", type=int)
     options.add_argument("--scripts", type=int, default=1000)
-    options.add_argument("--program", type=pathlib.Path, default=ROOT / "target/bin/cells")
+    options.add_argument("--program", type=pathlib.Path)
     given = options.parse_args()
     status = (not given.stored and oracle_status()) or (not given.store and program_status(given.program))
     if status:
         return status
+    program = given.program or ROOT / "target/bin/cells"
     if given.store:
         STORED.write_bytes(gzip.compress(stored_text().encode(), mtime=0))
         return 0
     if given.stored:
-        return compared_with_stored(given.program).report()
-    return check(given.program) if given.check else compared(given.program, scripts.random_scripts(given.seed, given.scripts)).report()
+        return compared_with_stored(program).report()
+    return check(program) if given.check else compared(program, scripts.random_scripts(given.seed, given.scripts)).report()
 
 
 if __name__ == "__main__":

@@ -6,7 +6,7 @@ import re
 import sys
 
 ROOT = os.path.join(os.path.dirname(os.path.realpath(__file__)), "..", "..")
-TABLE = "crates/call/proofs/Examples.antt"
+TABLE = "crates/table/proofs/Examples.antt"
 HOME = "crates/examples"
 # P1 has two rows.
 PROVED = 13

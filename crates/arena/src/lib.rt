@@ -2,8 +2,6 @@
 
 pub mod cells;
 pub mod cursor;
-pub mod sorting;
-pub mod walks;
 
 // The cells of a node before its members.
 pub const HEADER: usize = 4;

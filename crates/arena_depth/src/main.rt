@@ -3,9 +3,9 @@
 ghost use Prim.Native.Nat.{_+_, _≤_, _<_};
 use arena::cells::is_term;
 use arena::cells::is_type;
-use arena::walks::has_fields;
-use arena::walks::is_literal;
-use arena::walks::set_free;
+use walks::has_fields;
+use walks::is_literal;
+use walks::set_free;
 use libc::STDOUT_FILENO;
 use wellformed::is_formed;
 

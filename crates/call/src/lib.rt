@@ -2,9 +2,10 @@
 use arena::cells::clear_back;
 use arena::cursor::Cursor;
 use arena::cursor::NodeStep;
-use build::build;
+use dispatch::build;
 use instruction::Instruction;
 use refusals::refusal;
+use table::Answer;
 use wellformed::is_formed;
 ghost use mathlib.Core.Path.{_≡_};
 ghost use Prim.Native.Nat.{min};
@@ -12,17 +13,8 @@ ghost use Rattle.arena.specs.Cells.{used};
 ghost use Rattle.arena.specs.WellFormed.{IsArena};
 ghost use Rattle.factory.specs.Fit.{Ready};
 ghost use Rattle.instruction.specs.Instruction.{instrOf};
-ghost use Rattle.call.specs.Forms.{instr, listed, Passes, Held};
-ghost use Rattle.call.specs.Answers.{Answered};
-
-pub mod build;
-pub mod refusals;
-
-// The position and the new mark, or the number of a refusal, which leaves every cell and the mark as they were.
-pub enum Answer {
-    Accepted(u64, usize),
-    Refused(u64),
-}
+ghost use Rattle.table.specs.Forms.{instr, listed, Passes, Held};
+ghost use Rattle.table.specs.Answers.{Answered};
 
 // An instruction that no test refuses: what it builds, or 9.
 fn built(cells: &mut [u64], mark: usize, op: u64, par: u64, xs: &[u64]) -> Answer

@@ -8,11 +8,11 @@ use lib.Seq.{length-take-le}
 use Rattle.arena.specs.WellFormed.{IsArena}
 use Rattle.instruction.specs.Instruction.{instrOf}
 use Rattle.instruction.specs.declared.Instruction.{Instruction}
-use Rattle.call.specs.Call.{lent, callOn}
-use Rattle.call.specs.Answers.{markAfter, replyOf}
-use Rattle.call.specs.Promises.{After}
-use Rattle.call.specs.declared.Answer.{Answer}
-use Rattle.call.proofs.Kept.{kept}
+use Rattle.table.specs.Call.{lent, callOn}
+use Rattle.table.specs.Answers.{markAfter, replyOf}
+use Rattle.table.specs.Promises.{After}
+use Rattle.table.specs.declared.Answer.{Answer}
+use Rattle.table.proofs.Kept.{kept}
 
 -- the operands of a struct are as many as its count says, where its array has so many
 counted : (i : Instruction) → length (i .operands) ≡ 257 → i .count ≤ 257 → length (instrOf i .operands) ≡ i .count

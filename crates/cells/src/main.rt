@@ -1,6 +1,6 @@
 // Builds scripts, each in a fresh arena, and writes each answer and then the cells, for the comparison with the original.
 // tools/compare/README.md has the form of what is read and written.
-use call::Answer;
+use table::Answer;
 use instruction::Instruction;
 use libc::STDIN_FILENO;
 use libc::STDOUT_FILENO;
@@ -8,7 +8,7 @@ ghost use mathlib.Core.Path.{_≡_};
 ghost use Prim.Native.Nat.{_≤_};
 ghost use lib.ListN.{length};
 ghost use Rattle.arena.specs.WellFormed.{IsArena};
-ghost use Rattle.call.specs.Answers.{replyOf, markAfter};
+ghost use Rattle.table.specs.Answers.{replyOf, markAfter};
 
 // Bytes that a script has at most.
 const LONGEST: usize = 65536;

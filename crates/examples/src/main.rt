@@ -1,6 +1,6 @@
 // Document 01's examples, each in a fresh arena of its own length: writes each answer, and then the node at one position.
 // tools/examples/README.md has the form of what is read and written.
-use call::Answer;
+use table::Answer;
 use codec::Number;
 use libc::STDIN_FILENO;
 use libc::STDOUT_FILENO;

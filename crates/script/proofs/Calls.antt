@@ -13,8 +13,8 @@ use Rattle.codec.specs.Instructions.{Reading, whole, bad, instructionAt, allGro
 use Rattle.codec.specs.Lines.{refusedLine}
 use Rattle.codec.proofs.Choices.{lt-or-le}
 use Rattle.codec.proofs.Listed.{instruction-read, instruction-back}
-use Rattle.call.specs.Call.{callOn}
-use Rattle.call.specs.Answers.{markAfter}
+use Rattle.table.specs.Call.{callOn}
+use Rattle.table.specs.Answers.{markAfter}
 use Rattle.script.specs.Script.{longest, lent, State, state, start, Step, wrote, lineOf, called, stepOn, step, onto, ran, answers}
 use Rattle.script.specs.Calls.{Sayable, AllSayable, said, calls, lastLine}
 use Rattle.script.proofs.Short.{three-bytes}

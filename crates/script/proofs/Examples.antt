@@ -18,12 +18,12 @@ use Rattle.factory.specs.Bitvectors.{bvnegT, bvappT, bvcmpT, bvnegoT, bvsoT, ex
 use Rattle.factory.specs.SetSteps.{isNil, setMember, setSubset, setInter, setIsEmpty, notEmpty, setIntersects, optionGet, recordGet}
 use Rattle.factory.specs.Helpers.{orSome, orNone, eqNone, isNoneIte, isNone, isSome, ifFalse, ifTrue, noneOr, guarded, ifSome, orIsNone, anyNoneOn, anyNone, ifAllSome}
 use Rattle.compiler.specs.Compiler.{compiledNot, negUnless, compiledNeg, compiledIsEmpty, gotten, inner, ifAllGiven, recordIfAll, compiledRecord, hasSome, compiledHasAttr, optioned, compiledGetAttr}
-use Rattle.call.specs.Table.{table, rowOf, known, row}
+use Rattle.table.specs.Table.{table, rowOf, known, row}
 use Rattle.codec.specs.Digits.{digitsIn, digits}
 use Rattle.codec.specs.Numbers.{marked, groups, value, run as groupsRun, same as sameBytes, numberOf, numberAt}
 use Rattle.codec.specs.Instructions.{onto as numberOnto, first, numbersAt, after, operands, instructionAt}
 use Rattle.codec.specs.Lines.{text, decimal, field as lineField, okLine, refusedLine}
-use Rattle.call.specs.Call.{Reply, ok, refused, countOk, tooMany, sortOk, sortsOk, operandsOk, firstOf, tests, refusal, fitted, call, callOn}
+use Rattle.table.specs.Call.{Reply, ok, refused, countOk, tooMany, sortOk, sortsOk, operandsOk, firstOf, tests, refusal, fitted, call, callOn}
 use Rattle.script.specs.Script.{lineOf, stepOn, steps, answers, cellsAfter}
 
 unfoldable pub lines : List Reply → List ℕ

@@ -16,10 +16,10 @@ use Rattle.codec.specs.Instructions.{whole, bad, instructionAt}
 use Rattle.codec.specs.Writing.{put, Puts}
 use Rattle.codec.specs.Lines.{okLine, refusedLine}
 use Rattle.codec.proofs.Putting.{length-put, puts-puts}
-use Rattle.call.specs.Call.{Reply, callOn}
-use Rattle.call.specs.Answers.{replyOf, Answered, markAfter}
-use Rattle.call.specs.declared.Answer.{Answer}
-use Rattle.call.specs.declared.Answer.the-variants.{Accepted, Refused}
+use Rattle.table.specs.Call.{Reply, callOn}
+use Rattle.table.specs.Answers.{replyOf, Answered, markAfter}
+use Rattle.table.specs.declared.Answer.{Answer}
+use Rattle.table.specs.declared.Answer.the-variants.{Accepted, Refused}
 use Rattle.script.specs.Script.{longest, lent, State, state, start, Step, wrote, lineOf, called, stepOn, step, onto, ran, answers, cellsAfter}
 use Rattle.script.specs.Running.{room, Stepped, Ready, Walked, Ran}
 use Rattle.script.specs.declared.Place.{Place}

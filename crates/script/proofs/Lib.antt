@@ -4,4 +4,3 @@ pub mod Steps
 pub mod Going
 pub mod Calls
 pub mod Examples
-pub mod Damaged

@@ -13,8 +13,8 @@ use Rattle.codec.proofs.Digits.{digits-most}
 use Rattle.codec.proofs.Groups.{groups-some}
 use Rattle.codec.proofs.Turns.{length-decimal}
 use Rattle.codec.proofs.Listed.{instruction-read}
-use Rattle.call.specs.Call.{Reply, ok as oks, refused as refuses}
-use Rattle.call.proofs.Kept.{Small}
+use Rattle.table.specs.Call.{Reply, ok as oks, refused as refuses}
+use Rattle.table.proofs.Kept.{Small}
 use Rattle.script.specs.Script.{lent, lineOf}
 
 some-more : (n : ℕ) (ns : List ℕ) → length (allGroups ns) < length (allGroups (n ∷ ns))

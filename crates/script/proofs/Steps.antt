@@ -13,8 +13,8 @@ use Rattle.codec.specs.Lines.{refusedLine}
 use Rattle.codec.proofs.Choices.{cond-else}
 use Rattle.codec.proofs.Listed.{instruction-read}
 use Rattle.codec.proofs.Answers.{refused-most}
-use Rattle.call.specs.Call.{callOn}
-use Rattle.call.proofs.Kept.{Small, kept, small}
+use Rattle.table.specs.Call.{callOn}
+use Rattle.table.proofs.Kept.{Small, kept, small}
 use Rattle.script.specs.Script.{lent, State, Step, wrote, lineOf, called, stepOn, step, onto, steps, ran}
 use Rattle.script.proofs.Short.{three-bytes, line-short}
 

@@ -6,8 +6,8 @@ use lib.ListN.{length, getD}
 use Rattle.instruction.specs.Instruction.{Instr}
 use Rattle.codec.specs.Instructions.{allGroups, numbers}
 use Rattle.codec.specs.Lines.{refusedLine}
-use Rattle.call.specs.Call.{callOn}
-use Rattle.call.specs.Answers.{markAfter}
+use Rattle.table.specs.Call.{callOn}
+use Rattle.table.specs.Answers.{markAfter}
 use Rattle.script.specs.Script.{lineOf}
 
 -- an instruction that bytes can say

@@ -9,8 +9,8 @@ use Rattle.arena.specs.Cells.{padded}
 use Rattle.instruction.specs.Instruction.{Instr}
 use Rattle.codec.specs.Instructions.{Reading, whole, bad, instructionAt}
 use Rattle.codec.specs.Lines.{okLine, refusedLine}
-use Rattle.call.specs.Call.{Reply, ok, refused, callOn}
-use Rattle.call.specs.Answers.{markAfter}
+use Rattle.table.specs.Call.{Reply, ok, refused, callOn}
+use Rattle.table.specs.Answers.{markAfter}
 
 -- bytes that are read at most
 abbrev pub longest : ℕ

@@ -1,11 +1,11 @@
 // A whole script: one instruction after the other in a fresh arena, and a line for each.
-use call::Answer;
+use table::Answer;
 ghost use mathlib.Core.Path.{_≡_};
 ghost use Prim.Native.Nat.{_+_, _≤_};
 ghost use lib.ListN.{length};
 ghost use Rattle.arena.specs.WellFormed.{IsArena};
 ghost use Rattle.codec.specs.Writing.{Puts};
-ghost use Rattle.call.specs.Answers.{replyOf, markAfter};
+ghost use Rattle.table.specs.Answers.{replyOf, markAfter};
 ghost use Rattle.script.specs.Script.{lent, lineOf};
 ghost use Rattle.script.specs.Running.{room, Stepped, Ready, Walked, Ran};
 

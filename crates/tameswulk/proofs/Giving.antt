@@ -9,11 +9,11 @@ use lib.Dec.{leb}
 use borrow.Author.Tests.{leb-true, leb-false}
 use Rattle.arena.specs.WellFormed.{formed}
 use Rattle.instruction.specs.Instruction.{Instr}
-use Rattle.call.specs.Call.{Reply, refused, Lent, callOn}
-use Rattle.call.specs.Answers.{replyOf, told, Answered}
-use Rattle.call.specs.declared.Answer.{Answer}
-use Rattle.call.specs.declared.Answer.the-variants.{Accepted, Refused}
-use Rattle.call.proofs.Entry.{not-formed}
+use Rattle.table.specs.Call.{Reply, refused, Lent, callOn}
+use Rattle.table.specs.Answers.{replyOf, told, Answered}
+use Rattle.table.specs.declared.Answer.{Answer}
+use Rattle.table.specs.declared.Answer.the-variants.{Accepted, Refused}
+use Rattle.table.proofs.Entry.{not-formed}
 use Rattle.script.specs.Script.{lent}
 use Rattle.script.specs.Running.{room, Ran}
 use Rattle.script.proofs.Going.{ran-one}

@@ -4,8 +4,8 @@ use mathlib.Core.Path.{_≡_}
 use mathlib.Core.List.{List}
 use lib.ListN.{length, set}
 use Rattle.instruction.specs.Instruction.{Instr}
-use Rattle.call.specs.Call.{Reply, callOn}
-use Rattle.call.specs.Answers.{told}
+use Rattle.table.specs.Call.{Reply, callOn}
+use Rattle.table.specs.Answers.{told}
 use Rattle.script.specs.Script.{lent}
 use Rattle.script.specs.Running.{room, Ran}
 

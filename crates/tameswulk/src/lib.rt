@@ -1,11 +1,11 @@
 // The functions that a program in C or Rust links: slices and numbers, and a name that begins with the library's.
-use call::Answer;
+use table::Answer;
 use wellformed::is_formed;
 ghost use mathlib.Core.Path.{_≡_};
 ghost use Rattle.arena.specs.Fresh.{Freshened};
 ghost use Rattle.arena.specs.WellFormed.{IsArena};
-ghost use Rattle.call.specs.Forms.{listed};
-ghost use Rattle.call.specs.Answers.{replyOf};
+ghost use Rattle.table.specs.Forms.{listed};
+ghost use Rattle.table.specs.Answers.{replyOf};
 ghost use Rattle.tameswulk.specs.Library.{noted, Tells, Gives, Scripted};
 
 // What a script answers that is lent other cells than 8,192, or too few bytes for its lines.

@@ -1,8 +1,4 @@
 // Whether lent cells are a well-formed arena: the test of refusal 1.
-mod kinds;
-mod looks;
-pub mod runs;
-pub mod tests;
 
 ghost use mathlib.Core.Path.{_≡_};
 ghost use Prim.Native.Nat.{_≤_};
@@ -12,14 +8,7 @@ ghost use Rattle.arena.specs.Nodes.{same, fresh};
 ghost use Rattle.arena.specs.Cells.{cells as cellsIn, used, nodeHere, after};
 ghost use Rattle.arena.specs.WellFormed.{goodNode, absent, formed, Below};
 ghost use Rattle.arena.specs.Lent.{Ready};
-ghost use Rattle.wellformed.specs.Decide.{First};
-
-// What has to stand at a position: a type, a term, a term of the type at the given position.
-pub enum Want {
-    Kind,
-    Term,
-    Of(u64),
-}
+ghost use Rattle.node_tests.specs.Decide.{First};
 
 // The members of the node at p.
 fn members(cells: &[u64], p: usize) -> &[u64]
@@ -46,7 +35,7 @@ fn same_node(cells: &[u64], p: usize, q: usize) -> bool
     if cells[p] != cells[q] {
         return false;
     }
-    runs::same_run(members(cells, p), members(cells, q))
+    node_tests::runs::same_run(members(cells, p), members(cells, q))
 }
 
 // Whether no node below q has the cells of the one at q.
@@ -74,10 +63,10 @@ fn good_node(cells: &[u64], starts: &[u8], q: usize) -> bool
     let t = cells[q + 1];
     let p = cells[q + 2];
     let run = members(cells, q);
-    if !kinds::placed_ok(cells, starts, q, k, t, run) {
+    if !node_kinds::placed_ok(cells, starts, q, k, t, run) {
         return false;
     }
-    kinds::kind_ok(cells, starts, q, k, t, p, run)
+    node_kinds::kind_ok(cells, starts, q, k, t, p, run)
 }
 
 // Whether good new nodes fill the cells from 12 up to the mark.
@@ -112,7 +101,7 @@ fn starts_fresh(cells: &[u64]) -> bool
     ensures { λ r. ⌜ r ≡ sameList (take 12 (now (cells .entry))) (cellsIn fresh) ⌝ }
 {
     let fresh = [1u64, 0, 0, 0, 16, 0, 0, 0, 16, 0, 1, 0];
-    runs::same_run(&cells[..12], &fresh)
+    node_tests::runs::same_run(&cells[..12], &fresh)
 }
 
 // Whether the lent cells and the mark are a well-formed arena.
@@ -132,7 +121,7 @@ pub fn is_formed(cells: &[u64], mark: u64) -> bool
         return false;
     }
     let m = mark as usize;
-    if !runs::zeros_from(cells, m) {
+    if !node_tests::runs::zeros_from(cells, m) {
         return false;
     }
     if !starts_fresh(cells) {

@@ -1,7 +1,7 @@
 // Times the well-formedness test on arenas filled with one mix of nodes. run.sh puts the modules beside this file.
-mod arena {
-    pub mod walks;
-}
+mod node_kinds;
+mod node_tests;
+mod walks;
 mod wellformed;
 
 use std::hint::black_box;
@@ -94,9 +94,9 @@ fn main() {
         println!("| {name} | {a:.1} | {b:.1} | {c:.0} |");
     }
     let (cells, mark, last) = filled(BOOL, record_type, 65536);
-    let time = best(|| arena::walks::set_free(&cells, mark, last));
+    let time = best(|| walks::set_free(&cells, mark, last));
     println!("nested-set test of the last record type: {time:.2} ms");
     let (cells, mark, last) = filled(FALSE, record, 65536);
-    let time = best(|| arena::walks::is_literal(&cells, mark, last));
+    let time = best(|| walks::is_literal(&cells, mark, last));
     println!("literal test of the last record over it: {time:.2} ms");
 }

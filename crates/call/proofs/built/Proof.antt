@@ -1,7 +1,7 @@
 -- `call::built` meets its contract. Assumes nothing.
 use borrow.Author.Needs.{needs}
 use mathlib.Core.Path.{ap, _∙_}
-use Rattle.call.proofs.Entry.{by-built, by-full}
+use Rattle.table.proofs.Entry.{by-built, by-full}
 use Rattle.arena.specs.Did.{nodeReply}
 use borrow.Author.Needs.{needs}
 use Rattle.call.proofs.built.Statement.{statement}

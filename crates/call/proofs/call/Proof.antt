@@ -1,8 +1,8 @@
 -- `call::call` meets its contract. Assumes nothing.
 use borrow.Author.Needs.{needs}
 use mathlib.Core.Path.{sym, ap, _∙_}
-use Rattle.call.specs.Call.{Lent}
-use Rattle.call.proofs.Entry.{not-formed}
+use Rattle.table.specs.Call.{Lent}
+use Rattle.table.proofs.Entry.{not-formed}
 use Rattle.arena.proofs.Formed.{formed-arena}
 use Rattle.instruction.specs.Instruction.{instrOf}
 use borrow.Author.Needs.{needs}

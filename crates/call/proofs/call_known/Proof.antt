@@ -4,7 +4,7 @@ use lib.ListN.{length}
 use lib.Seq.{length-take-le}
 use mathlib.Core.Path.{_≡_, sym, _∙_}
 use native.Mathlib.Omega.{arith}
-use Rattle.call.proofs.Entry.{min-low, held-take}
+use Rattle.table.proofs.Entry.{min-low, held-take}
 use borrow.Author.Needs.{needs}
 use Rattle.call.proofs.call_known.Statement.{statement}
 use Rattle.call.proofs.call_known.Tie as tie

@@ -1,9 +1,9 @@
 -- `call::call_listed` meets its contract. Assumes nothing.
 use borrow.Author.Needs.{needs}
 use mathlib.Core.Path.{sym, ap, _∙_}
-use Rattle.call.specs.Call.{Lent}
-use Rattle.call.specs.Forms.{instr}
-use Rattle.call.proofs.Entry.{by-refusal, counted}
+use Rattle.table.specs.Call.{Lent}
+use Rattle.table.specs.Forms.{instr}
+use Rattle.table.proofs.Entry.{by-refusal, counted}
 use Rattle.arena.specs.Cells.{used}
 use borrow.Author.Needs.{needs}
 use Rattle.call.proofs.call_listed.Statement.{statement}

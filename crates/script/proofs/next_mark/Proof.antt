@@ -1,8 +1,8 @@
 -- `script::next_mark` meets its contract. Assumes nothing.
 use borrow.Author.Needs.{needs}
 use mathlib.Core.Path.{sym, ap}
-use Rattle.call.specs.Answers.{replyOf, markAfter}
-use Rattle.call.specs.declared.Answer.{Answer}
+use Rattle.table.specs.Answers.{replyOf, markAfter}
+use Rattle.table.specs.declared.Answer.{Answer}
 use Rattle.script.proofs.next_mark.Statement.{statement}
 use Rattle.script.proofs.next_mark.Tie as tie
 

@@ -1,6 +1,6 @@
 -- `tameswulk::tameswulk_call` meets its contract. Assumes nothing.
 use borrow.Author.Needs.{needs}
-use Rattle.call.specs.Forms.{listed}
+use Rattle.table.specs.Forms.{listed}
 use mathlib.Core.Path.{sym, _∙_}
 use Rattle.arena.proofs.Formed.{formed-arena}
 use Rattle.tameswulk.proofs.Giving.{gives-unformed}

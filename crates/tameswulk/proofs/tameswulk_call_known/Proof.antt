@@ -1,6 +1,6 @@
 -- `tameswulk::tameswulk_call_known` meets its contract. Assumes nothing.
 use borrow.Author.Needs.{needs}
-use Rattle.call.specs.Forms.{listed}
+use Rattle.table.specs.Forms.{listed}
 use mathlib.Core.Path.{refl}
 use Rattle.tameswulk.proofs.Giving.{gives}
 use Rattle.tameswulk.proofs.tameswulk_call_known.Statement.{statement}

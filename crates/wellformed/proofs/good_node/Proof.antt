@@ -2,7 +2,7 @@
 use borrow.Author.Tests.{not-true, not-false}
 use borrow.Author.Needs.{needs}
 use Rattle.arena.specs.Cells.{used}
-use Rattle.wellformed.proofs.Arms.{good-off, elem-type, good-on}
+use Rattle.node_tests.proofs.Arms.{good-off, elem-type, good-on}
 use Rattle.wellformed.proofs.good_node.Statement.{statement}
 use Rattle.wellformed.proofs.good_node.Tie as tie
 

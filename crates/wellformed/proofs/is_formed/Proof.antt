@@ -1,7 +1,7 @@
 -- `wellformed::is_formed` meets its contract.
 use borrow.Author.Tests.{not-true, not-false}
 use borrow.Author.Needs.{needs}
-use Rattle.wellformed.proofs.Steps.{too-short, too-long, above, too-few, not-zeros, not-fresh, first}
+use Rattle.node_tests.proofs.Steps.{too-short, too-long, above, too-few, not-zeros, not-fresh, first}
 use Rattle.wellformed.proofs.is_formed.Statement.{statement}
 use Rattle.wellformed.proofs.is_formed.Tie as tie
 

@@ -7,7 +7,7 @@ use borrow.Author.Needs.{needs}
 use borrow.Author.Tests.{not-true, not-false}
 use Rattle.arena.proofs.Tiling.{next-below}
 use Rattle.arena.proofs.Lent.{next-starts}
-use Rattle.wellformed.proofs.Steps.{Going, begin, bad-room, bad-good, bad-new, at-end}
+use Rattle.node_tests.proofs.Steps.{Going, begin, bad-room, bad-good, bad-new, at-end}
 use Rattle.wellformed.proofs.nodes_follow.Statement.{statement}
 use Rattle.wellformed.proofs.nodes_follow.Tie as tie
 

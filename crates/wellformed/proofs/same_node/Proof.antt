@@ -4,7 +4,7 @@ use borrow.Author.Needs.{needs}
 use Rattle.arena.specs.Cells.{nodeHere}
 use Rattle.arena.specs.Nodes.{Node}
 use Rattle.arena.specs.Lists.{sameList}
-use Rattle.wellformed.proofs.Steps.{differ, alike}
+use Rattle.node_tests.proofs.Steps.{differ, alike}
 use Rattle.wellformed.proofs.same_node.Statement.{statement}
 use Rattle.wellformed.proofs.same_node.Tie as tie
 

@@ -1,0 +1,2 @@
+-- Scripts that are cut and changed, computed from the definitions.
+mod Damaged

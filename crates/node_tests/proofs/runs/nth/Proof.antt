@@ -1,0 +1,21 @@
+-- `node_tests::runs::nth` meets its contract.
+use mathlib.Core.Path.{sym}
+use borrow.Author.Needs.{needs}
+use Rattle.arena.proofs.Lent.{get-far}
+use Rattle.node_tests.proofs.runs.nth.Statement.{statement}
+use Rattle.node_tests.proofs.runs.nth.Tie as tie
+
+mul-result : tie.Need-mul-result
+mul-result c = search needs
+
+shared-slice-read-result : tie.Need-shared-slice-read-result
+shared-slice-read-result c = search needs
+
+returns : tie.Need-returns
+returns c = search needs
+
+returns-2 : tie.Need-returns-2
+returns-2 c = sym (get-far (c .before .args .run .now) _ (c .if1 .left))
+
+pub nth-spec : {M : Type 1} → statement M
+nth-spec = tie.close (tie.spec mul-result shared-slice-read-result returns returns-2)
