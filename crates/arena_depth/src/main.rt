@@ -3,10 +3,10 @@
 ghost use Prim.Native.Nat.{_+_, _≤_, _<_};
 use arena::cells::is_term;
 use arena::cells::is_type;
+use libc::STDOUT_FILENO;
 use walks::has_fields;
 use walks::is_literal;
 use walks::set_free;
-use libc::STDOUT_FILENO;
 use wellformed::is_formed;
 
 fn put(cells: &mut [u64], at: usize, v: u64) {

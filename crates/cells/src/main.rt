@@ -1,9 +1,9 @@
 // Builds scripts, each in a fresh arena, and writes each answer and then the cells, for the comparison with the original.
 // tools/compare/README.md has the form of what is read and written.
-use table::Answer;
 use instruction::Instruction;
 use libc::STDIN_FILENO;
 use libc::STDOUT_FILENO;
+use table::Answer;
 ghost use mathlib.Core.Path.{_≡_};
 ghost use Prim.Native.Nat.{_≤_};
 ghost use lib.ListN.{length};

@@ -1,9 +1,9 @@
 // Document 01's examples, each in a fresh arena of its own length: writes each answer, and then the node at one position.
 // tools/examples/README.md has the form of what is read and written.
-use table::Answer;
 use codec::Number;
 use libc::STDIN_FILENO;
 use libc::STDOUT_FILENO;
+use table::Answer;
 
 // Bytes that are read at most.
 const LONGEST: usize = 4096;

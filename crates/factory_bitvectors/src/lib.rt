@@ -16,6 +16,7 @@ use factory_makers::app2;
 use factory_makers::bitvec_lit;
 use factory_makers::bitvec_type;
 use factory_makers::bool_at;
+use nodes::term_node;
 ghost use mathlib.Core.Path.{_≡_};
 ghost use mathlib.Core.Bool.{true};
 ghost use Prim.Native.Nat.{_+_, _≤_};
@@ -134,7 +135,7 @@ fn extended(cells: &mut [u64], cursor: Cursor, n: u64, t: TermPos, ty: TypePos) 
         return bitvec_lit(cells, cursor, ty, bitvec::zero_extend(width, n, v));
     }
     let members = [t.0];
-    cursor.term_node(cells, 149, ty, n, &members)
+    term_node(cells, cursor, 149, ty, n, &members)
 }
 
 pub fn zero_extend(cells: &mut [u64], cursor: Cursor, n: u64, t: TermPos) -> TermStep

@@ -14,6 +14,7 @@ use factory_makers::app1;
 use factory_makers::app2;
 use factory_makers::both_literal;
 use factory_makers::some_of;
+use nodes::term_node;
 ghost use mathlib.Core.Path.{_≡_};
 ghost use mathlib.Core.Bool.{true, _&&_, _||_};
 ghost use Prim.Native.Nat.{_≤_};
@@ -187,7 +188,7 @@ fn ite_simplify(cells: &mut [u64], cursor: Cursor, g: TermPos, t: TermPos, u: Te
     }
     let ty = type_of(cells, cursor.mark, t);
     let members = [g.0, t.0, u.0];
-    cursor.term_node(cells, 125, ty, 0, &members)
+    term_node(cells, cursor, 125, ty, 0, &members)
 }
 
 // `ite` of two Somes: one layer goes round the whole.

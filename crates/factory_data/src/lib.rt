@@ -1,4 +1,8 @@
 // factory.rs, sets, and the operators of options and records.
+use crate::runs::common;
+use crate::runs::contains;
+use crate::runs::contains_all;
+use crate::runs::field_or_0;
 use arena::TermPos;
 use arena::TypePos;
 use arena::cells::arg_of;
@@ -7,10 +11,6 @@ use arena::cells::members_of;
 use arena::cells::type_of;
 use arena::cursor::Cursor;
 use arena::cursor::TermStep;
-use crate::runs::common;
-use crate::runs::contains;
-use crate::runs::contains_all;
-use crate::runs::field_or_0;
 use factory_core::eq;
 use factory_core::not;
 use factory_makers::BOOL;
@@ -21,6 +21,7 @@ use factory_makers::app2;
 use factory_makers::bool_at;
 use factory_makers::both_literal;
 use factory_makers::elem_of;
+use nodes::term_node;
 ghost use mathlib.Core.Path.{_≡_};
 ghost use mathlib.Core.Bool.{true, _&&_};
 ghost use Rattle.arena.specs.Nodes.{kindAt, elemAt};
@@ -110,7 +111,7 @@ fn inter_of(cells: &mut [u64], cursor: Cursor, s: TermPos, t: TermPos) -> TermSt
     let right = members_of(cells, cursor.mark, t.0);
     let mut run = [0u64; 256];
     let n = common(left, right, &mut run);
-    cursor.term_node(cells, 20, ty, 0, &run[..n])
+    term_node(cells, cursor, 20, ty, 0, &run[..n])
 }
 
 pub fn set_inter(cells: &mut [u64], cursor: Cursor, s: TermPos, t: TermPos) -> TermStep
@@ -143,7 +144,7 @@ pub fn set_is_empty(cells: &mut [u64], cursor: Cursor, s: TermPos) -> TermStep
     }
     let ty = type_of(cells, cursor.mark, s);
     let none = [0u64; 1];
-    match cursor.term_node(cells, 20, ty, 0, &none[..0]) {
+    match term_node(cells, cursor, 20, ty, 0, &none[..0]) {
         TermStep::At(next, e) => eq(cells, next, s, e),
         TermStep::Full => TermStep::Full,
     }
@@ -194,5 +195,5 @@ pub fn record_get(cells: &mut [u64], cursor: Cursor, k: u64, t: TermPos) -> Term
     let of = type_of(cells, cursor.mark, t);
     let ty = TypePos(field_or_0(members_of(cells, cursor.mark, of.0), k));
     let members = [t.0];
-    cursor.term_node(cells, 156, ty, k, &members)
+    term_node(cells, cursor, 156, ty, k, &members)
 }

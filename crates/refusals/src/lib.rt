@@ -20,13 +20,13 @@ use arena::cells::kind_of;
 use arena::cells::members_of;
 use arena::cells::par_of;
 use arena::cells::type_of;
-use table::Form;
-use table::Named;
-use walks::set_free;
 use node_tests::runs::keys_small;
 use node_tests::runs::rises;
 use node_tests::tests::all2;
 use node_tests::tests::fits_width;
+use table::Form;
+use table::Named;
+use walks::set_free;
 
 // ---- refusals 2 and 3: the operation, its count and its parameter
 

@@ -1,4 +1,4 @@
--- `arena::cursor::copy_in` meets its contract. Assumes nothing.
+-- `nodes::copy_in` meets its contract. Assumes nothing.
 use borrow.Author.Needs.{needs}
 use mathlib.Core.List.{List}
 use mathlib.Core.Path.{_≡_, refl, sym, ap, _∙_}
@@ -7,8 +7,8 @@ use native.Mathlib.Numerals.{add-one}
 use native.Mathlib.Omega.{arith}
 use lib.ListN.{length, getD, set, length-set}
 use lib.Seq.{paste, paste-zero, paste-suc}
-use Rattle.arena.proofs.cursor.copy_in.Statement.{statement}
-use Rattle.arena.proofs.cursor.copy_in.Tie as tie
+use Rattle.nodes.proofs.copy_in.Statement.{statement}
+use Rattle.nodes.proofs.copy_in.Tie as tie
 
 abbrev Inv-loop : tie.InvT-loop
 Inv-loop cells₀ from run i₀ cells i = (i ≤ length run) × (cells ≡ paste cells₀ from run i) × (length cells ≡ length cells₀)

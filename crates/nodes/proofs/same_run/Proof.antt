@@ -1,14 +1,14 @@
--- `arena::cursor::same_run` meets its contract. Assumes nothing.
+-- `nodes::same_run` meets its contract. Assumes nothing.
 use borrow.Author.Needs.{needs}
 use mathlib.Core.Path.{_≡_, refl, sym, _∙_}
 use Prim.Native.Nat.{_≤_, _-_}
 use native.Mathlib.Omega.{arith}
 use lib.ListN.{length, take, drop}
 use Rattle.arena.specs.Lists.{sameList}
 use Rattle.arena.proofs.Loops.{list-hit, list-miss, list-end}
 use Rattle.arena.proofs.Stretch.{stretch-length, stretch-at}
-use Rattle.arena.proofs.cursor.same_run.Statement.{statement}
-use Rattle.arena.proofs.cursor.same_run.Tie as tie
+use Rattle.nodes.proofs.same_run.Statement.{statement}
+use Rattle.nodes.proofs.same_run.Tie as tie
 
 abbrev Inv-loop : tie.InvT-loop
 Inv-loop cells from run i₀ i =

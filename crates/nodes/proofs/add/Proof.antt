@@ -1,11 +1,11 @@
--- `arena::cursor::add` meets its contract. Assumes nothing.
+-- `nodes::add` meets its contract. Assumes nothing.
 use borrow.Author.Needs.{needs}
 use mathlib.Core.Path.{_∙_}
 use native.Mathlib.Omega.{arith}
 use lib.ListN.{length-set}
 use Rattle.arena.proofs.Stretch.{stored}
-use Rattle.arena.proofs.cursor.add.Statement.{statement}
-use Rattle.arena.proofs.cursor.add.Tie as tie
+use Rattle.nodes.proofs.add.Statement.{statement}
+use Rattle.nodes.proofs.add.Tie as tie
 
 mul-cells : tie.Need-mul-cells
 mul-cells c = search needs

@@ -1,18 +1,18 @@
--- `arena::cursor::same_node` meets its contract. Assumes nothing.
+-- `nodes::same_node` meets its contract. Assumes nothing.
 use borrow.Author.Needs.{needs}
 use borrow.Author.Tests.{eq-eqb, ne-eqb}
 use mathlib.Core.Path.{sym, ap, _∙_}
 use Prim.Native.Nat.{ℕ, _+_}
 use native.Mathlib.Omega.{arith}
 use lib.ListN.{take, drop, getD}
 use Rattle.arena.specs.Cells.{nodeHere}
 use Rattle.arena.specs.Lists.{sameList}
 use Rattle.arena.specs.Nodes.{same, header}
 use Rattle.arena.proofs.Bools.{every-on, every-off, every-one}
 use Rattle.arena.proofs.Loops.{list-length}
 use Rattle.arena.proofs.Stretch.{stretch-length}
-use Rattle.arena.proofs.cursor.same_node.Statement.{statement}
-use Rattle.arena.proofs.cursor.same_node.Tie as tie
+use Rattle.nodes.proofs.same_node.Statement.{statement}
+use Rattle.nodes.proofs.same_node.Tie as tie
 
 mul-if1 : tie.Need-mul-if1
 mul-if1 c = search needs

@@ -1,12 +1,12 @@
--- `arena::cursor::find` meets its contract. Assumes nothing.
+-- `nodes::find` meets its contract. Assumes nothing.
 use mathlib.Core.Path.{sym, ap, _∙_}
 use Prim.Native.Nat.{_≤_, _-_}
 use native.Mathlib.Omega.{arith}
 use Rattle.arena.specs.Did.{foundOr}
 use Rattle.arena.specs.Nodes.{node}
 use Rattle.arena.proofs.Scan.{Scan, scan-start, scan-fits, scan-hit, scan-miss, scan-end}
-use Rattle.arena.proofs.cursor.find.Statement.{statement}
-use Rattle.arena.proofs.cursor.find.Tie as tie
+use Rattle.nodes.proofs.find.Statement.{statement}
+use Rattle.nodes.proofs.find.Tie as tie
 
 abbrev Inv-loop : tie.InvT-loop
 Inv-loop cells mark kind ty par members at₀ at = (at ≤ mark) × Scan cells mark (node kind ty par members) at
