@@ -40,7 +40,7 @@ fn build_type(cells: &mut [u64], cursor: Cursor, op: u64, par: u64, xs: &[u64]) 
     let ty = TypePos(operand(xs, 0));
     let none = [0u64; 1];
     match op {
-        1 => cursor.type_node(cells, 1, 0, &none[..0]),
+        1 => nodes::type_node(cells, cursor, 1, 0, &none[..0]),
         2 => factory_makers::bitvec_type(cells, cursor, Width(par)),
         3 => factory_makers::option_type(cells, cursor, ty),
         4 => factory_makers::set_type(cells, cursor, ty),
