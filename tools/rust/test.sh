@@ -3,17 +3,8 @@
 # from the network but Debian's packages. Ends with status 77 where there is no cargo, or no way to run x86-64 programs.
 set -euo pipefail
 cd "$(dirname "$(readlink -f "$0")")/../.."
+source tools/rust/quietly.sh rust
 source tools/rust/cross.sh rust
-
-log=$(mktemp)
-trap 'rm -f "$log"' EXIT
-quietly() {
-    "$@" >"$log" 2>&1 || {
-        cat "$log"
-        echo "rust: failed at: $*"
-        exit 1
-    }
-}
 
 # an archive is built anew, so that no older one is tested
 rm -f target/staticlib/libtameswulk.a
