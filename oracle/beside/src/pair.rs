@@ -84,7 +84,10 @@ impl Pair {
         match self.arena.call(instruction.operation, instruction.parameter, &instruction.operands) {
             Err(refusal) => {
                 let number = refusal.number();
-                assert!(number == expected || (number, expected) == (9, 0), "{instruction:?}: refused {number}, and not {expected}");
+                assert!(
+                    number == expected || (number, expected) == (9, 0),
+                    "{instruction:?}: refused {number}, and not {expected}"
+                );
                 assert!(self.arena == before, "{instruction:?}: refused {number}, and the arena changed");
                 Step::Refused(number)
             }

@@ -71,7 +71,7 @@ fn fields(pairs: &[u64]) -> impl Iterator<Item = u64> + '_ {
 }
 
 fn is_field_list(pairs: &[u64]) -> bool {
-    pairs.len() % 2 == 0 && pairs.len() <= 128 && rises(attributes(pairs)) && attributes(pairs).all(|a| a < SMALL)
+    pairs.len().is_multiple_of(2) && pairs.len() <= 128 && rises(attributes(pairs)) && attributes(pairs).all(|a| a < SMALL)
 }
 
 fn fits_width(value: u64, width: u64) -> bool {
@@ -89,7 +89,8 @@ impl Nodes {
         let mut nodes = Nodes::default();
         nodes.take(used, 0)?;
         let fresh = [(0, 1, 0), (4, 16, 0), (8, 16, 1)];
-        let stands = |&(position, kind, parameter)| nodes.at.get(&position) == Some(&Node { kind, ty: 0, parameter, members: vec![] });
+        let stands =
+            |&(position, kind, parameter)| nodes.at.get(&position) == Some(&Node { kind, ty: 0, parameter, members: vec![] });
         fresh.iter().all(stands).then_some(nodes)
     }
 
@@ -156,7 +157,8 @@ impl Nodes {
             (18, 3, 0, []) => true,
             (19, 3, 0, &[t]) => self.is_term(t) && self.type_of(t) == self.element(node.ty),
             (20, 4, 0, _) => {
-                let good = members.len() <= 256 && rises(members.iter().copied()) && all_terms(Box::new(members.iter().copied()));
+                let good =
+                    members.len() <= 256 && rises(members.iter().copied()) && all_terms(Box::new(members.iter().copied()));
                 good && members.iter().all(|&t| self.type_of(t) == self.element(node.ty))
             }
             (21, 5, 0, _) => {
@@ -337,7 +339,7 @@ impl Form {
     fn counts(&self, n: usize) -> bool {
         match self {
             Form::Listed(sorts) => n == sorts.len(),
-            Form::Pairs(_) => n % 2 == 0,
+            Form::Pairs(_) => n.is_multiple_of(2),
             Form::Run(sorts) => n >= sorts.len(),
         }
     }

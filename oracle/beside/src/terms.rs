@@ -203,6 +203,7 @@ fn operator(number: u64, parameter: u64) -> Op {
         56 => return Op::RecordGet(name(parameter).ok().expect("a number below 2^32")),
         _ => {}
     }
+    #[rustfmt::skip]
     let plain = [
         Op::Not, Op::And, Op::Or, Op::Eq, Op::Ite, Op::Bvneg, Op::Bvadd, Op::Bvsub, Op::Bvmul, Op::Bvsdiv, Op::Bvudiv, Op::Bvsrem,
         Op::Bvsmod, Op::Bvurem, Op::Bvshl, Op::Bvlshr, Op::Bvslt, Op::Bvsle, Op::Bvult, Op::Bvule, Op::Bvnego, Op::Bvsaddo,

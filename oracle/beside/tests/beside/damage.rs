@@ -19,7 +19,10 @@ impl Damage {
         let before = cells.to_vec();
         let answer = raw::call(cells, mark, instruction.operation, instruction.parameter, &instruction.operands);
         let number = answer.map_or_else(|refusal| refusal.number(), |_| 0);
-        assert!(number == expected || (number, expected) == (9, 0), "{number} and not {expected}: {instruction:?}, mark {mark} of {before:?}");
+        assert!(
+            number == expected || (number, expected) == (9, 0),
+            "{number} and not {expected}: {instruction:?}, mark {mark} of {before:?}"
+        );
         assert!(number == 0 || cells == before, "refused {number}, and cells changed");
         self.refused += u64::from(read.is_none());
         self.sound += u64::from(read.is_some());
@@ -34,7 +37,14 @@ impl Damage {
             for _ in 0..changes {
                 let (any, kind) = (numbers.below(mark), numbers.one_of(&[0, 16, 100]) + numbers.below(60));
                 let other = cells[numbers.below(mark) as usize];
-                let near = [old.wrapping_add(1), old.wrapping_sub(1), old.wrapping_add(4), old.wrapping_sub(4), old ^ 1 << 32, u64::MAX];
+                let near = [
+                    old.wrapping_add(1),
+                    old.wrapping_sub(1),
+                    old.wrapping_add(4),
+                    old.wrapping_sub(4),
+                    old ^ 1 << 32,
+                    u64::MAX,
+                ];
                 cells[i] = numbers.one_of(&[near.as_slice(), &[0, 1, any, any, kind, kind, other, other, other]].concat());
                 self.tested(&mut cells, mark, numbers, pair.nodes());
                 cells[i] = old;

@@ -96,7 +96,11 @@ fn lengths_at_both_limits() {
         cells.iter_mut().zip(fresh).for_each(|(cell, number)| *cell = number);
         let before = cells.clone();
         for mark in [0, 11, 12, 13, length as u64, length as u64 + 1, u64::MAX] {
-            let expected = if Nodes::read(&cells, mark).is_some() { Ok(raw::Accepted { position: 8, mark }) } else { Err(Refusal::NotAnArena) };
+            let expected = if Nodes::read(&cells, mark).is_some() {
+                Ok(raw::Accepted { position: 8, mark })
+            } else {
+                Err(Refusal::NotAnArena)
+            };
             assert_eq!(Nodes::read(&cells, mark).is_some(), allowed && mark == 12);
             assert_eq!(raw::call(&mut cells, mark, 20, 0, &[4]), expected, "{length} cells, mark {mark}");
             assert!(cells == before);
