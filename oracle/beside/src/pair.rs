@@ -2,7 +2,7 @@
 use crate::terms::{original_of, Id, Ids};
 use crate::{Instruction, Node, Nodes};
 use oracle::{run, Ins, Operand, Out, R};
-use std::collections::{BTreeMap, HashMap};
+use std::collections::{BTreeMap, BTreeSet, HashMap};
 use tameswulk::Arena;
 
 /// An arena, what each of its nodes is to the original, and the number of each.
@@ -95,6 +95,7 @@ impl Pair {
                 assert_eq!(expected, 0, "{instruction:?}: accepted");
                 self.take_over(&before, instruction);
                 self.compare(instruction, position, before.mark());
+                self.look_for_strays(instruction, position, before.mark());
                 Step::Built(position)
             }
         }
@@ -144,6 +145,19 @@ impl Pair {
             }
             Err(Out::Error(text) | Out::Bad(text)) => panic!("{instruction:?}: the original answers {text}"),
             Err(Out::R(_)) => unreachable!("a result is no error"),
+        }
+    }
+
+    /// Nothing is added that the result does not name, but by operations whose steps may build what they then do not use.
+    fn look_for_strays(&self, instruction: &Instruction, position: u64, old: u64) {
+        if matches!(instruction.operation, 23 | 54 | 60..=66 | 70..=75) {
+            return;
+        }
+        let mut reached = BTreeSet::from([position]);
+        for position in self.nodes.positions().filter(|&p| p >= old).collect::<Vec<_>>().into_iter().rev() {
+            assert!(reached.contains(&position), "{instruction:?}: added {:?} besides", self.nodes.node(position));
+            let Node { ty, members, .. } = self.nodes.node(position);
+            reached.extend(members.iter().chain([ty]));
         }
     }
 }
