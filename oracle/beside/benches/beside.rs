@@ -163,7 +163,7 @@ fn chain<F: Factory>(f: &mut F, n: usize) -> F::Term {
 fn mix<F: Factory>(f: &mut F, n: usize) -> F::Term {
     let bits = f.bits();
     let optional = f.option(&bits);
-    let mut rules = f.literal(0);
+    let mut rules: Option<F::Term> = None;
     for i in 0..n {
         let (version, old) = (f.variable(2 * i, &bits), f.variable(2 * i + 1, &optional));
         let limit = f.literal(i as u64 % 16);
@@ -179,9 +179,12 @@ fn mix<F: Factory>(f: &mut F, n: usize) -> F::Term {
         let (has, kept) = (f.option_get(&has), f.option_get(&kept));
         let rule = f.and(&above, &has);
         let rule = f.and(&rule, &kept);
-        rules = if i == 0 { rule } else { f.and(&rules, &rule) };
+        rules = Some(match rules {
+            Some(others) => f.and(&others, &rule),
+            None => rule,
+        });
     }
-    rules
+    rules.expect("one request or more")
 }
 
 /// A record of one literal twice, that record twice, and so on.
@@ -310,7 +313,20 @@ fn tested() {
     }
 }
 
+/// Builds one case once on our side, for a tool that counts instructions.
+fn once(case: &str, size: usize) {
+    match case {
+        "chain" => chain(&mut Ours::new(16 * size + 64), size),
+        "mix" => mix(&mut Ours::new(120 * size + 256), size),
+        _ => panic!("the cases are chain and mix"),
+    };
+}
+
 fn main() {
+    let words: Vec<String> = std::env::args().skip_while(|word| word != "once").skip(1).take(2).collect();
+    if let [case, size] = &words[..] {
+        return once(case, size.parse().expect("a size"));
+    }
     println!(
         "| case | size | original, µs | ours, µs | ratio | original's growth | our growth |\n|---|---|---|---|---|---|---|"
     );
