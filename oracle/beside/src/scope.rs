@@ -150,24 +150,26 @@ impl Nodes {
 
     fn admits_made(&self, node: &Node) -> bool {
         let members = &node.members[..];
-        let all_terms = |mut terms: Box<dyn Iterator<Item = u64> + '_>| terms.all(|t| self.is_term(t));
         match (node.kind, self.kind(node.ty), node.parameter, members) {
             (16, 1, value, []) => value <= 1,
             (17, 2, value, []) => fits_width(value, self.width(node.ty)),
             (18, 3, 0, []) => true,
-            (19, 3, 0, &[t]) => self.is_term(t) && self.type_of(t) == self.element(node.ty),
+            (19, 3, 0, &[t]) => self.is_of_type(t, self.element(node.ty)),
             (20, 4, 0, _) => {
-                let good =
-                    members.len() <= 256 && rises(members.iter().copied()) && all_terms(Box::new(members.iter().copied()));
-                good && members.iter().all(|&t| self.type_of(t) == self.element(node.ty))
+                let element = self.element(node.ty);
+                members.len() <= 256 && rises(members.iter().copied()) && members.iter().all(|&t| self.is_of_type(t, element))
             }
             (21, 5, 0, _) => {
-                let good = is_field_list(members) && all_terms(Box::new(fields(members)));
+                let good = is_field_list(members) && fields(members).all(|t| self.is_term(t));
                 good && self.at[&node.ty].members == self.field_types(members)
             }
             (22, _, id, []) => id < SMALL,
             _ => false,
         }
+    }
+
+    fn is_of_type(&self, term: u64, ty: u64) -> bool {
+        self.is_term(term) && self.type_of(term) == ty
     }
 
     fn field_types(&self, members: &[u64]) -> Vec<u64> {

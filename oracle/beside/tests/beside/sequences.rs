@@ -80,6 +80,15 @@ fn on_arenas_that_no_factory_left() {
     counts.print();
 }
 
+/// A list of fields, each attribute given twice and the attributes falling.
+fn fields(values: &[u64]) -> Vec<u64> {
+    values.iter().enumerate().flat_map(|(i, &t)| [1_000 - i as u64 / 2, t]).collect()
+}
+
+fn behind(first: u64, list: &[u64]) -> Vec<u64> {
+    [&[first], list].concat()
+}
+
 #[test]
 fn with_the_longest_lists() {
     let mut counts = Counts::default();
@@ -99,24 +108,22 @@ fn with_the_longest_lists() {
     let terms: Vec<u64> = (0..257).map(|id| built(16, id, vec![bits])).collect();
     let literals: Vec<u64> = (0..257).rev().map(|value| built(11, value, vec![bits])).collect();
     let options: Vec<u64> = (0..257).map(|id| built(16, id, vec![option])).collect();
-    let pairs = |values: &[u64]| values.iter().enumerate().flat_map(|(i, &t)| [1_000 - i as u64 / 2, t]).collect::<Vec<u64>>();
     for list in [&terms, &literals] {
-        let set = built(14, 0, [vec![bits], list[..256].to_vec()].concat());
+        let set = built(14, 0, behind(bits, &list[..256]));
         built(51, 0, vec![set, set]);
         built(50, 0, vec![list[255], set]);
-        built(15, 0, pairs(&list[..64]));
+        built(15, 0, fields(&list[..64]));
     }
+    let types = |count: u64| (0..count).flat_map(|attribute| [attribute, bits]).collect::<Vec<u64>>();
+    built(5, 0, types(64));
     built(65, 0, options[..256].to_vec());
-    built(66, 0, [vec![terms[0]], options[..256].to_vec()].concat());
-    built(73, 0, pairs(&options[..64]));
-    for (operation, operands) in [
-        (14, [vec![bits], terms.clone()].concat()),
-        (14, vec![bits; 258]),
-        (15, pairs(&terms[..65])),
-        (65, options.clone()),
-        (66, [vec![terms[0]], options.clone()].concat()),
-        (73, pairs(&options[..65])),
-    ] {
+    built(66, 0, behind(terms[0], &options[..256]));
+    built(73, 0, fields(&options[..64]));
+    let (many_terms, many_options) = (behind(bits, &terms), behind(terms[0], &options));
+    let too_long =
+        [(14, many_terms), (15, fields(&terms[..65])), (65, options.clone()), (66, many_options), (73, fields(&options[..65]))];
+    assert_eq!(give(5, 0, types(65)), Step::Refused(3));
+    for (operation, operands) in too_long {
         assert_eq!(give(operation, 0, operands), Step::Refused(3));
     }
     counts.print();
