@@ -8,6 +8,7 @@ fn main() -> Result<(), Refusal> {
     let new = arena.build(Instruction::variable(1, version))?;
     let broken = arena.build(Instruction::slt(new, old))?;
 
+    println!("{}", arena.display(broken).expect("a term of this arena"));
     println!("new {} slt old {} is the term {}, mark {}", new.position(), old.position(), broken.position(), arena.mark());
     for node in arena.nodes() {
         println!(

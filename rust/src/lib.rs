@@ -13,6 +13,7 @@
 //! let five = arena.build(Instruction::bitvec_literal(5, bits))?;
 //! let minus = arena.build(Instruction::neg(five))?;
 //! assert_eq!(arena.node(minus.position()).unwrap().parameter, 5u64.wrapping_neg());
+//! assert_eq!(arena.display(minus).unwrap().to_string(), "18446744073709551611:BV64");
 //! assert_eq!(arena.build(Instruction::not(five)), Err(Refusal::WrongType));
 //! # Ok(())
 //! # }
@@ -27,10 +28,12 @@
 //! ```
 #![deny(missing_docs, unsafe_op_in_unsafe_fn)]
 
+mod display;
 mod instruction;
 pub mod raw;
 mod refusal;
 
+pub use display::Display;
 pub use instruction::Instruction;
 pub use refusal::Refusal;
 

@@ -1,28 +1,10 @@
 #!/bin/bash
 # Proves and builds the library, and runs the tests, the example and the documentation of the Rust crate over it, with nothing
-# from the network. Ends with status 77 where there is no cargo.
+# from the network but Debian's packages. Ends with status 77 where there is no cargo, or no way to run x86-64 programs.
 set -euo pipefail
 cd "$(dirname "$(readlink -f "$0")")/../.."
-
-PATH=$PATH:$HOME/.cargo/bin
-if ! command -v cargo >/dev/null; then
-    echo "rust: not tested, there is no cargo"
-    exit 77
-fi
-if [ "$(uname -m)" != x86_64 ]; then
-    echo "rust: not tested, the library links into x86-64 programs alone"
-    exit 77
-fi
-
-log=$(mktemp)
-trap 'rm -f "$log"' EXIT
-quietly() {
-    "$@" >"$log" 2>&1 || {
-        cat "$log"
-        echo "rust: failed at: $*"
-        exit 1
-    }
-}
+source tools/rust/quietly.sh rust
+source tools/rust/cross.sh rust
 
 # an archive is built anew, so that no older one is tested
 rm -f target/staticlib/libtameswulk.a

@@ -1,6 +1,7 @@
 // Whether lent cells are a well-formed arena: the test of refusal 1.
 
 ghost use mathlib.Core.Path.{_≡_};
+ghost use mathlib.Core.Bool.{true};
 ghost use Prim.Native.Nat.{_≤_};
 ghost use lib.ListN.{length, take};
 ghost use Rattle.arena.specs.Lists.{sameList};
@@ -38,13 +39,16 @@ fn same_node(cells: &[u64], p: usize, q: usize) -> bool
     node_tests::runs::same_run(members(cells, p), members(cells, q))
 }
 
-// Whether no node below q has the cells of the one at q.
+// Whether no node below q has the cells of the good node at q. It would stand above the last member, so the search begins there; behind a count
+// of 0 stands no member, and the count itself is where the first node starts.
 fn is_new(cells: &[u64], q: usize) -> bool
     requires { ⌜ Below (now cells) q ⌝ }
     requires { ⌜ after (now cells) q ≤ length (now cells) ⌝ }
+    requires { ⌜ goodNode (used (now cells) q) (nodeHere (now cells) q) ≡ true ⌝ }
     ensures { λ r. ⌜ r ≡ absent (used (now (cells .entry)) q) (nodeHere (now (cells .entry)) q) ⌝ }
 {
-    let mut p: usize = 0;
+    let last = q + 3 + cells[q + 3] as usize;
+    let mut p = cells[last] as usize;
     while p < q {
         if same_node(cells, p, q) {
             return false;

@@ -60,7 +60,9 @@ returns-3 : tie.Need-returns-3 Inv-loop μ-loop
 returns-3 c = bad-good (c .before .before .before .before .before .before .before .loop .inv .below) (omega arith) _ (c .before .good-node .ensures) (not-true _ (c .if3 .taken))
 
 is-new-requires : tie.Need-is-new-requires Inv-loop μ-loop
-is-new-requires c κs = (c .before .before .before .before .before .before .before .loop .inv .below, omega arith)
+is-new-requires c κs =
+    let g = c .before .good-node in
+    (c .before .before .before .before .before .before .before .loop .inv .below, (omega arith, sym (g .ensures) ∙ not-false (g .result) (c .if3 .left)))
 
 same-length-4 : tie.Need-same-length-4 Inv-loop μ-loop
 same-length-4 c = search needs

@@ -1,0 +1,2 @@
+-- Where the search for a node like another may begin.
+mod Last
