@@ -1,5 +1,5 @@
 -- A walk over lent cells from one start of a node to the next: what it has seen says what stands at a number.
-use mathlib.Core.Path.{_≡_, refl, sym, ap, _∙_}
+use mathlib.Core.Path.{_≡_, refl, sym, ap, _∙_, subst}
 use Prim.Native.Nat.{ℕ, _≤_, _<_}
 use native.Mathlib.Omega.{arith}
 use mathlib.Core.Bool.{false}
@@ -8,11 +8,12 @@ use lib.ListN.{length, getD}
 use lib.Dec.{leb}
 use borrow.Author.Tests.{lt-leb, le-leb}
 use Rattle.arena.specs.Lists.{within}
-use Rattle.arena.specs.Nodes.{Node, Nodes, mark, kindAt, memAt}
+use Rattle.arena.specs.Nodes.{Node, Nodes, mark, over, nodeAt, kindAt, memAt}
 use Rattle.arena.specs.Cells.{used, after}
 use Rattle.arena.specs.WellFormed.{Below}
 use Rattle.arena.proofs.Bools.{every-on, every-off, every-one}
-use Rattle.arena.proofs.Ext.{Ext, ext-same, ext-more, ext-all, mark-nil, mark-cons, mark-more, mark-ext, node-old, node-ext, node-far}
+use Rattle.arena.proofs.Ext.{Ext, ext-same, ext-more, ext-older, ext-all, mark-nil, mark-fresh, mark-cons, mark-more, mark-ext, node-old, node-ext, node-far}
+use Rattle.arena.proofs.Chain.{place}
 use Rattle.arena.proofs.Formed.{wf, mark-is}
 use Rattle.arena.proofs.Read.{read-kind, read-count, after-end}
 use Rattle.arena.proofs.Tiling.{Next, next, next-there, next-pos}
@@ -27,6 +28,17 @@ pub record Past (c : List ℕ) (m p q : ℕ) : Type 0 where
 pub past-start : (c : List ℕ) (m p : ℕ) → Past c m p 0
 past-start c m p =
     record { seen = []; ext = ext-all (used c m); at = mark-nil; none = ap (λ (n : Node). n .kind) (node-far [] p (let z = mark-nil in omega arith)) }
+
+-- a walk may begin at the node that starts at q, if p is not below it
+pub past-from : {c : List ℕ} {m : ℕ} → Below c m → (p q : ℕ) → 1 ≤ kindAt (used c m) q → q ≤ p → Past c m p q
+past-from B p q k l =
+    let w = place (wf B .chain) q k in
+    record { seen = w .older; ext = ext-older (w .ext); at = w .here; none = ap (λ (n : Node). n .kind) (node-far (w .older) p (let h = w .here in omega arith)) }
+
+-- Bool starts at 0
+pub first-kind : {c : List ℕ} {m : ℕ} → Below c m → 1 ≤ kindAt (used c m) 0
+unfolding nodeAt over mark
+first-kind B = subst (λ (n : Node). 1 ≤ n .kind) (sym (node-ext (wf B .base) 0 (let z = mark-fresh in omega arith))) (omega arith)
 
 -- the whole arena was seen where its marks agree
 all-seen : {o a : Nodes} → Ext o a → mark a ≤ mark o → o ≡ a

@@ -38,12 +38,13 @@ pub fn fresh(cells: &mut [u64]) -> u64
     12
 }
 
-// The kind of the node that starts at p, 0 where none does: p is any number.
-pub fn kind_at(cells: &[u64], mark: usize, p: u64) -> u64
+// The kind of the node that starts at p, 0 where none does. The walk begins at the node that starts at `from`, where p is not below it.
+pub fn kind_from(cells: &[u64], mark: usize, from: u64, p: u64) -> u64
     requires { ⌜ Below (now cells) mark ⌝ }
+    requires { ⌜ 1 ≤ kindAt (used (now cells) mark) from ⌝ }
     ensures { λ r. ⌜ r ≡ kindAt (used (now (cells .entry)) mark) p ⌝ }
 {
-    let mut at: usize = 0;
+    let mut at: usize = if p < from { 0 } else { from as usize };
     while at < mark {
         if p < at as u64 {
             return 0;
@@ -54,6 +55,14 @@ pub fn kind_at(cells: &[u64], mark: usize, p: u64) -> u64
         at += HEADER + cells[at + 3] as usize;
     }
     0
+}
+
+// The kind of the node that starts at p, 0 where none does: p is any number.
+pub fn kind_at(cells: &[u64], mark: usize, p: u64) -> u64
+    requires { ⌜ Below (now cells) mark ⌝ }
+    ensures { λ r. ⌜ r ≡ kindAt (used (now (cells .entry)) mark) p ⌝ }
+{
+    kind_from(cells, mark, 0, p)
 }
 
 // Whether a term starts at p.

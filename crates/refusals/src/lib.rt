@@ -1,10 +1,11 @@
 // Document 01's refusals 2 to 8 of an instruction on a well-formed arena: its tests in the order of their numbers, of which the first that
 // holds is given. Conditions on an operation's number are joined by | and &, so that each is one value.
 ghost use mathlib.Core.Path.{_≡_};
-ghost use mathlib.Core.Bool.{true, false, _||_};
+ghost use mathlib.Core.Bool.{true, false, cond, _||_};
 ghost use Prim.Native.Nat.{_≤_};
 ghost use lib.ListN.{length, drop};
-ghost use Rattle.arena.specs.Lists.{all, any};
+ghost use lib.Dec.{leb};
+ghost use Rattle.arena.specs.Lists.{all, any, within};
 ghost use Rattle.arena.specs.Nodes.{typeAt, elemAt, widthAt};
 ghost use Rattle.arena.specs.Cells.{used};
 ghost use Rattle.arena.specs.WellFormed.{Below, isTerm};
@@ -14,8 +15,8 @@ ghost use Rattle.table.specs.Call.{countOk, tooMany, sortOk, sortsOk, operandsO
 ghost use Rattle.table.specs.Forms.{sort, sorts, shapeOf, misfit, lacks, Terms, Suited, instr};
 use arena::TermPos;
 use arena::cells::arg_of;
-use arena::cells::is_term;
 use arena::cells::is_type;
+use arena::cells::kind_from;
 use arena::cells::kind_of;
 use arena::cells::members_of;
 use arena::cells::par_of;
@@ -123,19 +124,20 @@ fn too_many(form: Form, n: u64) -> bool
 
 // ---- refusal 4: terms and types where they are needed
 
-// Whether a type starts at x, or a term.
-fn sort_ok(cells: &[u64], mark: usize, typed: bool, x: u64) -> bool
-    requires { ⌜ Below (now cells) mark ⌝ }
-    ensures { λ r. ⌜ r ≡ sortOk (used (now (cells .entry)) mark) (sort typed) x ⌝ }
+// Whether a node of this kind is of the sort: a type, or a term. 0 is neither.
+fn fits_sort(typed: bool, kind: u64) -> bool
+    ensures { λ r. ⌜ r ≡ cond typed (within 1 15 kind) (leb 16 kind) ⌝ }
 {
-    if typed {
-        is_type(cells, mark, x)
-    } else {
-        is_term(cells, mark, x)
+    if !typed {
+        return 16 <= kind;
     }
+    if kind < 1 {
+        return false;
+    }
+    kind <= 15
 }
 
-// The same of all from `from` on, or of every second one.
+// Whether nodes of the sort start at all operands from `from` on, or at every second one. Each is looked for from the one before on.
 fn all_sorted(cells: &[u64], mark: usize, typed: bool, xs: &[u64], from: usize, step: usize) -> bool
     requires { ⌜ Below (now cells) mark ⌝ }
     requires { ⌜ from ≤ 1 ⌝ }
@@ -143,10 +145,13 @@ fn all_sorted(cells: &[u64], mark: usize, typed: bool, xs: &[u64], from: usize, 
     ensures { λ r. ⌜ r ≡ all (sortOk (used (now (cells .entry)) mark) (sort typed)) (heads step (drop from (now (xs .entry)))) ⌝ }
 {
     let mut i = from;
+    let mut foot: u64 = 0;
     while i < xs.len() {
-        if !sort_ok(cells, mark, typed, xs[i]) {
+        let kind = kind_from(cells, mark, foot, xs[i]);
+        if !fits_sort(typed, kind) {
             return false;
         }
+        foot = xs[i];
         i += step;
     }
     true

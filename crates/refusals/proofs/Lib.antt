@@ -1,0 +1,2 @@
+-- What the tests of operands lean on.
+mod Sorts
