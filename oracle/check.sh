@@ -22,9 +22,9 @@ done < <(cd "$compiled" && find . -name '*.rs' ! -name tree.rs | sed 's|^\./||' 
     echo "oracle: $files original files are compiled, and not 20"
     exit 1
 }
-grep -v '^;' examples.txt | target/release/oracle >examples.out
-diff -u examples.expected examples.out || {
+answers=$(grep -v '^;' examples.txt | target/release/oracle)
+diff -u examples.expected - <<<"$answers" || {
     echo "oracle: the worked examples give other answers"
     exit 1
 }
-echo "oracle: $files files as in the original, $(wc -l <examples.out) answers as recorded"
+echo "oracle: $files files as in the original, $(wc -l <<<"$answers") answers as recorded"

@@ -19,10 +19,10 @@ import time
 HERE = pathlib.Path(__file__).resolve().parent
 ROOT = HERE.parents[1]
 PAGE = ROOT / "docs" / "SCRIPTS.md"
-# runs a proved program on any processor
-RUN = ROOT / "tools/run"
+# what runs a proved program on any processor
+RUN = subprocess.run([ROOT / "tools/run", "--words"], stdout=subprocess.PIPE, text=True, check=True).stdout.splitlines()
 EXAMPLE = ROOT / "examples" / "version.hex"
-TABLES = [(ROOT / "crates/script/proofs/Examples.antt", "examples"), (ROOT / "crates/bench/proofs/Damaged.antt", "damaged")]
+TABLES = [(ROOT / "crates/script/proofs/Examples.antt", "examples"), (ROOT / "crates/examples/proofs/Damaged.antt", "damaged")]
 
 LONGEST = 65_536
 BAD = "refused 10"
@@ -89,7 +89,7 @@ class Check:
         self.different = 0
 
     def run(self, data):
-        return subprocess.run([RUN, self.program], input=data, stdout=subprocess.PIPE, timeout=PATIENCE, check=True).stdout
+        return subprocess.run([*RUN, self.program], input=data, stdout=subprocess.PIPE, timeout=PATIENCE, check=True).stdout
 
     def differ(self, name, data, expected, got):
         self.different += 1
@@ -310,7 +310,7 @@ def fed(program, data, sizes, pauses, made_by):
         ours, theirs = socket.socketpair()
         read_end = theirs.detach()
         send, close = (lambda piece: ours.send(piece)), ours.close
-    process = subprocess.Popen([RUN, program], stdin=read_end, stdout=subprocess.PIPE)
+    process = subprocess.Popen([*RUN, program], stdin=read_end, stdout=subprocess.PIPE)
     os.close(read_end)
 
     def feed():
@@ -339,7 +339,7 @@ def ended(process, out, feeder):
 def taken(program, data, size, stops, small_pipe):
     """The output where it is read slowly in small pieces, from a pipe that holds little; the program is stopped and let go on `stops` times
     while it writes, which cuts a write short."""
-    process = subprocess.Popen([RUN, program], stdin=subprocess.PIPE, stdout=subprocess.PIPE)
+    process = subprocess.Popen([*RUN, program], stdin=subprocess.PIPE, stdout=subprocess.PIPE)
     if small_pipe:
         fcntl.fcntl(process.stdout.fileno(), fcntl.F_SETPIPE_SZ, 4096)
 
@@ -374,7 +374,7 @@ def ways(check, scripts):
             file.write(data)
             file.flush()
             file.seek(0)
-            got = subprocess.run([RUN, check.program], stdin=file, stdout=subprocess.PIPE, timeout=PATIENCE, check=True).stdout
+            got = subprocess.run([*RUN, check.program], stdin=file, stdout=subprocess.PIPE, timeout=PATIENCE, check=True).stdout
             check.equal("from a file", data, lines, got)
         for made_by in ("pipe", "socket"):
             for sizes in ([1], [7], [1, 4096, 3], [65_535, 1]):
