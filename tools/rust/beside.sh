@@ -1,6 +1,7 @@
 #!/bin/bash
 # Gives the linked library and the original the same instructions in one process, and compares what they answer (oracle/beside). The
-# library is the archive that test.sh built. Ends with status 77 where the originals, cargo or a package is missing.
+# library is the archive that test.sh built. Ends with status 77 where the originals, cargo or a package is missing. `--build` compiles the
+# original alone, for which no archive is needed.
 set -euo pipefail
 cd "$(dirname "$(readlink -f "$0")")/../.."
 source tools/rust/quietly.sh beside
@@ -19,6 +20,11 @@ fi
 }
 
 source tools/rust/cross.sh beside
+if [ "${1:-}" = --build ]; then
+    cd oracle
+    quietly cargo build --release --offline -p oracle
+    exit
+fi
 [ -f "${TAMESWULK_LIB:-target/staticlib}/libtameswulk.a" ] || quietly rt staticlib tameswulk
 cd oracle
 quietly cargo test --release --offline -p beside --test beside -- --show-output

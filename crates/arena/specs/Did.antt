@@ -6,12 +6,6 @@ use mathlib.Core.Option.{Option, none, some}
 use mathlib.Core.List.{List}
 use lib.ListN.{length, take}
 use lib.Dec.{leb}
-use Rattle.arena.specs.declared.cursor.TermStep.{TermStep}
-use Rattle.arena.specs.declared.cursor.TypeStep.{TypeStep}
-use Rattle.arena.specs.declared.cursor.NodeStep.{NodeStep}
-use Rattle.arena.specs.declared.cursor.TermStep.the-variants as term
-use Rattle.arena.specs.declared.cursor.TypeStep.the-variants as type
-use Rattle.arena.specs.declared.cursor.NodeStep.the-variants as step
 use Rattle.arena.specs.Nodes.{Node, node, Nodes, mark, Out, put, _⨟_}
 use Rattle.arena.specs.Cells.{padded, used}
 
@@ -19,18 +13,6 @@ use Rattle.arena.specs.Cells.{padded, used}
 pub data Reply : Type 0 where
   built : ℕ → ℕ → Reply
   full : Reply
-
-abbrev pub termReply : TermStep → Reply
-termReply (term.At c p) = built (c .mark) (p .0)
-termReply term.Full = full
-
-abbrev pub typeReply : TypeStep → Reply
-typeReply (type.At c p) = built (c .mark) (p .0)
-typeReply type.Full = full
-
-abbrev pub nodeReply : NodeStep → Reply
-nodeReply (step.At c p) = built (c .mark) p
-nodeReply step.Full = full
 
 -- the answer of a step that comes to the arena and the position o, in n cells
 unfoldable pub reply : ℕ → Out → Reply

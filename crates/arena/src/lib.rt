@@ -1,7 +1,6 @@
 // The arena: nodes in lent cells. A position of a term and one of a type are two types, so neither passes for the other.
 
 pub mod cells;
-pub mod cursor;
 
 // The cells of a node before its members.
 pub const HEADER: usize = 4;

@@ -1,9 +1,9 @@
 // One call on a lent arena: the instruction by value, any cells, any mark.
 use arena::cells::clear_back;
-use arena::cursor::Cursor;
-use arena::cursor::NodeStep;
 use dispatch::build;
 use instruction::Instruction;
+use nodes::Cursor;
+use nodes::NodeStep;
 use refusals::refusal;
 use table::Answer;
 use wellformed::is_formed;

@@ -26,7 +26,7 @@ use Rattle.factory.proofs.Picks.{pair-front, pair-back}
 use Rattle.factory.proofs.Calls.{ready-wf, ready-next}
 use Rattle.compiler.specs.declared.Fields.{Fields}
 use Rattle.compiler.specs.declared.Fields.the-variants as fields
-use Rattle.arena.specs.declared.cursor.Cursor.{Cursor}
+use Rattle.nodes.specs.declared.Cursor.{Cursor}
 use Rattle.compiler.specs.Compiler.{gotten, inner, ifAllGiven, recordIfAll, compiledRecord}
 use Rattle.compiler.specs.Buffers.{HoldsInner}
 use Rattle.compiler.proofs.Unary.{some-after}

@@ -1,15 +1,16 @@
 // The dispatcher: an accepted instruction's operation is decided by its number, and builds as the table says.
 use arena::TermPos;
 use arena::TypePos;
-use arena::cursor::Cursor;
-use arena::cursor::NodeStep;
-use arena::cursor::TermStep;
-use arena::cursor::TypeStep;
 use bitvec::Width;
+use nodes::Cursor;
+use nodes::NodeStep;
+use nodes::TermStep;
+use nodes::TypeStep;
 ghost use mathlib.Core.Path.{_≡_};
 ghost use Prim.Native.Nat.{_≤_};
 ghost use lib.ListN.{getD, drop};
-ghost use Rattle.arena.specs.Did.{Did, termReply, typeReply, nodeReply};
+ghost use Rattle.arena.specs.Did.{Did};
+ghost use Rattle.nodes.specs.Replies.{termReply, typeReply, nodeReply};
 ghost use Rattle.factory.specs.Fit.{Ready};
 ghost use Rattle.table.specs.Table.{row};
 ghost use Rattle.table.specs.Forms.{Passes};
@@ -40,7 +41,7 @@ fn build_type(cells: &mut [u64], cursor: Cursor, op: u64, par: u64, xs: &[u64]) 
     let ty = TypePos(operand(xs, 0));
     let none = [0u64; 1];
     match op {
-        1 => nodes::type_node(cells, cursor, 1, 0, &none[..0]),
+        1 => cursor.type_node(cells, 1, 0, &none[..0]),
         2 => factory_makers::bitvec_type(cells, cursor, Width(par)),
         3 => factory_makers::option_type(cells, cursor, ty),
         4 => factory_makers::set_type(cells, cursor, ty),

@@ -5,9 +5,6 @@ use arena::cells::arg_of;
 use arena::cells::kind_of;
 use arena::cells::par_of;
 use arena::cells::type_of;
-use arena::cursor::Cursor;
-use arena::cursor::TermStep;
-use arena::cursor::TypeStep;
 use bitvec::Width;
 use factory_makers::BOOL;
 use factory_makers::all2;
@@ -16,14 +13,17 @@ use factory_makers::app2;
 use factory_makers::bitvec_lit;
 use factory_makers::bitvec_type;
 use factory_makers::bool_at;
-use nodes::term_node;
+use nodes::Cursor;
+use nodes::TermStep;
+use nodes::TypeStep;
 ghost use mathlib.Core.Path.{_≡_};
 ghost use mathlib.Core.Bool.{true};
 ghost use Prim.Native.Nat.{_+_, _≤_};
 ghost use Rattle.arena.specs.Nodes.{widthAt};
 ghost use Rattle.arena.specs.Cells.{used};
 ghost use Rattle.arena.specs.WellFormed.{isTerm};
-ghost use Rattle.arena.specs.Did.{Did, termReply};
+ghost use Rattle.arena.specs.Did.{Did};
+ghost use Rattle.nodes.specs.Replies.{termReply};
 ghost use Rattle.factory.specs.Fit.{Alike, OfKind, Ready};
 ghost use Rattle.factory.specs.Bitvectors.{bothBv, bvnegT, bvappT, bvcmpT, bvnegoT, bvsoT, extendedTo, zeroExtendT};
 
@@ -135,7 +135,7 @@ fn extended(cells: &mut [u64], cursor: Cursor, n: u64, t: TermPos, ty: TypePos) 
         return bitvec_lit(cells, cursor, ty, bitvec::zero_extend(width, n, v));
     }
     let members = [t.0];
-    term_node(cells, cursor, 149, ty, n, &members)
+    cursor.term_node(cells, 149, ty, n, &members)
 }
 
 pub fn zero_extend(cells: &mut [u64], cursor: Cursor, n: u64, t: TermPos) -> TermStep

@@ -3,8 +3,6 @@ use arena::TermPos;
 use arena::cells::arg_of;
 use arena::cells::kind_of;
 use arena::cells::type_of;
-use arena::cursor::Cursor;
-use arena::cursor::TermStep;
 use factory_makers::BOOL;
 use factory_makers::FALSE;
 use factory_makers::TRUE;
@@ -14,14 +12,16 @@ use factory_makers::app1;
 use factory_makers::app2;
 use factory_makers::both_literal;
 use factory_makers::some_of;
-use nodes::term_node;
+use nodes::Cursor;
+use nodes::TermStep;
 ghost use mathlib.Core.Path.{_≡_};
 ghost use mathlib.Core.Bool.{true, _&&_, _||_};
 ghost use Prim.Native.Nat.{_≤_};
 ghost use lib.Dec.{eqb};
 ghost use Rattle.arena.specs.Cells.{used};
 ghost use Rattle.arena.specs.Values.{tbool};
-ghost use Rattle.arena.specs.Did.{Did, termReply};
+ghost use Rattle.arena.specs.Did.{Did};
+ghost use Rattle.nodes.specs.Replies.{termReply};
 ghost use Rattle.factory.specs.Fit.{Typed, Alike, Ready};
 ghost use Rattle.factory.specs.Core.{notT, opposites as opposed, junction, andT, orT, implies as impliesT, eqSimplify, eqT, iteSimplify, iteOfSomes, iteT};
 
@@ -188,7 +188,7 @@ fn ite_simplify(cells: &mut [u64], cursor: Cursor, g: TermPos, t: TermPos, u: Te
     }
     let ty = type_of(cells, cursor.mark, t);
     let members = [g.0, t.0, u.0];
-    term_node(cells, cursor, 125, ty, 0, &members)
+    cursor.term_node(cells, 125, ty, 0, &members)
 }
 
 // `ite` of two Somes: one layer goes round the whole.

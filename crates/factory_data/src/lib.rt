@@ -9,8 +9,6 @@ use arena::cells::arg_of;
 use arena::cells::kind_of;
 use arena::cells::members_of;
 use arena::cells::type_of;
-use arena::cursor::Cursor;
-use arena::cursor::TermStep;
 use factory_core::eq;
 use factory_core::not;
 use factory_makers::BOOL;
@@ -21,14 +19,16 @@ use factory_makers::app2;
 use factory_makers::bool_at;
 use factory_makers::both_literal;
 use factory_makers::elem_of;
-use nodes::term_node;
+use nodes::Cursor;
+use nodes::TermStep;
 ghost use mathlib.Core.Path.{_≡_};
 ghost use mathlib.Core.Bool.{true, _&&_};
 ghost use Rattle.arena.specs.Nodes.{kindAt, elemAt};
 ghost use Rattle.arena.specs.Cells.{used};
 ghost use Rattle.arena.specs.WellFormed.{isTerm};
 ghost use Rattle.arena.specs.Walks.{isLit};
-ghost use Rattle.arena.specs.Did.{Did, termReply};
+ghost use Rattle.arena.specs.Did.{Did};
+ghost use Rattle.nodes.specs.Replies.{termReply};
 ghost use Rattle.factory.specs.Fit.{Alike, OfKind, Ready};
 ghost use Rattle.factory.specs.SetSteps.{isSet, emptyAt, setMember, bothSets, setSubset, interOf, setInter, setIsEmpty, notEmpty, setIntersects, optionGet, recordGet};
 
@@ -111,7 +111,7 @@ fn inter_of(cells: &mut [u64], cursor: Cursor, s: TermPos, t: TermPos) -> TermSt
     let right = members_of(cells, cursor.mark, t.0);
     let mut run = [0u64; 256];
     let n = common(left, right, &mut run);
-    term_node(cells, cursor, 20, ty, 0, &run[..n])
+    cursor.term_node(cells, 20, ty, 0, &run[..n])
 }
 
 pub fn set_inter(cells: &mut [u64], cursor: Cursor, s: TermPos, t: TermPos) -> TermStep
@@ -144,7 +144,7 @@ pub fn set_is_empty(cells: &mut [u64], cursor: Cursor, s: TermPos) -> TermStep
     }
     let ty = type_of(cells, cursor.mark, s);
     let none = [0u64; 1];
-    match term_node(cells, cursor, 20, ty, 0, &none[..0]) {
+    match cursor.term_node(cells, 20, ty, 0, &none[..0]) {
         TermStep::At(next, e) => eq(cells, next, s, e),
         TermStep::Full => TermStep::Full,
     }
@@ -195,5 +195,5 @@ pub fn record_get(cells: &mut [u64], cursor: Cursor, k: u64, t: TermPos) -> Term
     let of = type_of(cells, cursor.mark, t);
     let ty = TypePos(field_or_0(members_of(cells, cursor.mark, of.0), k));
     let members = [t.0];
-    term_node(cells, cursor, 156, ty, k, &members)
+    cursor.term_node(cells, 156, ty, k, &members)
 }

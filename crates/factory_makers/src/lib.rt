@@ -4,13 +4,10 @@ use arena::TermPos;
 use arena::TypePos;
 use arena::cells::arg_of;
 use arena::cells::type_of;
-use arena::cursor::Cursor;
-use arena::cursor::TermStep;
-use arena::cursor::TypeStep;
 use bitvec::Width;
-use nodes::term_node;
-use nodes::type_node;
-use nodes::typed_node;
+use nodes::Cursor;
+use nodes::TermStep;
+use nodes::TypeStep;
 use sorting::fields;
 use sorting::sorted;
 use walks::is_literal;
@@ -23,7 +20,8 @@ ghost use Rattle.arena.specs.Cells.{used};
 ghost use Rattle.arena.specs.WellFormed.{small, isType, isTerm, IsArena, Below};
 ghost use Rattle.arena.specs.Walks.{isLit, setFree};
 ghost use Rattle.arena.specs.Lists.{all, evens, odds};
-ghost use Rattle.arena.specs.Did.{Did, termReply, typeReply};
+ghost use Rattle.arena.specs.Did.{Did};
+ghost use Rattle.nodes.specs.Replies.{termReply, typeReply};
 ghost use Rattle.factory.specs.Fit.{Ready};
 ghost use Rattle.factory.specs.Makers.{boolAt, bitvecType, optionType, setType, recordType, bitvecLit, variable as variableOf, noneOf, someOf, setOf, recordOf, app};
 ghost use Rattle.factory.specs.Core.{uninterpreted as uninterpretedOf};
@@ -83,7 +81,7 @@ pub fn bitvec_type(cells: &mut [u64], cursor: Cursor, width: Width) -> TypeStep
     ensures { λ r. ⌜ Did (λ a. bitvecType a (width .0)) (now (cells .entry)) (cursor .mark) (typeReply r) (now (cells .exit)) ⌝ }
 {
     let none = [0u64; 1];
-    type_node(cells, cursor, 2, width.0, &none[..0])
+    cursor.type_node(cells, 2, width.0, &none[..0])
 }
 
 pub fn option_type(cells: &mut [u64], cursor: Cursor, ty: TypePos) -> TypeStep
@@ -91,7 +89,7 @@ pub fn option_type(cells: &mut [u64], cursor: Cursor, ty: TypePos) -> TypeStep
     ensures { λ r. ⌜ Did (λ a. optionType a (ty .0)) (now (cells .entry)) (cursor .mark) (typeReply r) (now (cells .exit)) ⌝ }
 {
     let of = [ty.0];
-    type_node(cells, cursor, 3, 0, &of)
+    cursor.type_node(cells, 3, 0, &of)
 }
 
 pub fn set_type(cells: &mut [u64], cursor: Cursor, ty: TypePos) -> TypeStep
@@ -99,7 +97,7 @@ pub fn set_type(cells: &mut [u64], cursor: Cursor, ty: TypePos) -> TypeStep
     ensures { λ r. ⌜ Did (λ a. setType a (ty .0)) (now (cells .entry)) (cursor .mark) (typeReply r) (now (cells .exit)) ⌝ }
 {
     let of = [ty.0];
-    type_node(cells, cursor, 4, 0, &of)
+    cursor.type_node(cells, 4, 0, &of)
 }
 
 // Attribute and type of each field in turn.
@@ -107,7 +105,7 @@ pub fn record_type(cells: &mut [u64], cursor: Cursor, fields: &[u64]) -> TypeSte
     requires { ⌜ IsArena (now cells) (cursor .mark) ⌝ }
     ensures { λ r. ⌜ Did (λ a. recordType a (now (fields .entry))) (now (cells .entry)) (cursor .mark) (typeReply r) (now (cells .exit)) ⌝ }
 {
-    type_node(cells, cursor, 5, 0, fields)
+    cursor.type_node(cells, 5, 0, fields)
 }
 
 // ---------- Checked term constructors ----------
@@ -134,7 +132,7 @@ pub fn none_of(cells: &mut [u64], cursor: Cursor, ty: TypePos) -> TermStep
 {
     let of = [ty.0];
     let none = [0u64; 1];
-    typed_node(cells, cursor, 3, 0, &of, 18, 0, &none[..0])
+    cursor.typed_node(cells, 3, 0, &of, 18, 0, &none[..0])
 }
 
 pub fn some_of(cells: &mut [u64], cursor: Cursor, t: TermPos) -> TermStep
@@ -143,7 +141,7 @@ pub fn some_of(cells: &mut [u64], cursor: Cursor, t: TermPos) -> TermStep
 {
     let of = [type_of(cells, cursor.mark, t).0];
     let members = [t.0];
-    typed_node(cells, cursor, 3, 0, &of, 19, 0, &members)
+    cursor.typed_node(cells, 3, 0, &of, 19, 0, &members)
 }
 
 // Members by position, without duplicates.
@@ -155,7 +153,7 @@ pub fn set_of(cells: &mut [u64], cursor: Cursor, ty: TypePos, terms: &[u64]) -> 
     let of = [ty.0];
     let mut run = [0u64; 256];
     let n = sorted(terms, &mut run);
-    typed_node(cells, cursor, 4, 0, &of, 20, 0, &run[..n])
+    cursor.typed_node(cells, 4, 0, &of, 20, 0, &run[..n])
 }
 
 // Attribute and term of each field in turn; of equal attributes the last wins.
@@ -168,7 +166,7 @@ pub fn record_of(cells: &mut [u64], cursor: Cursor, list: &[u64]) -> TermStep
     let n = fields(list, &mut run);
     let mut types = [0u64; 128];
     field_types(cells, cursor.mark, &run[..n], &mut types);
-    typed_node(cells, cursor, 5, 0, &types[..n], 21, 0, &run[..n])
+    cursor.typed_node(cells, 5, 0, &types[..n], 21, 0, &run[..n])
 }
 
 // A bitvector literal of a Bitvec type.
@@ -177,7 +175,7 @@ pub fn bitvec_lit(cells: &mut [u64], cursor: Cursor, ty: TypePos, v: u64) -> Ter
     ensures { λ r. ⌜ Did (λ a. bitvecLit a (ty .0) v) (now (cells .entry)) (cursor .mark) (termReply r) (now (cells .exit)) ⌝ }
 {
     let none = [0u64; 1];
-    term_node(cells, cursor, 17, ty, v, &none[..0])
+    cursor.term_node(cells, 17, ty, v, &none[..0])
 }
 
 pub fn variable(cells: &mut [u64], cursor: Cursor, id: u64, ty: TypePos) -> TermStep
@@ -185,7 +183,7 @@ pub fn variable(cells: &mut [u64], cursor: Cursor, id: u64, ty: TypePos) -> Term
     ensures { λ r. ⌜ Did (λ a. variableOf a id (ty .0)) (now (cells .entry)) (cursor .mark) (termReply r) (now (cells .exit)) ⌝ }
 {
     let none = [0u64; 1];
-    term_node(cells, cursor, 22, ty, id, &none[..0])
+    cursor.term_node(cells, 22, ty, id, &none[..0])
 }
 
 // ---------- Applications ----------
@@ -197,7 +195,7 @@ pub fn app1(cells: &mut [u64], cursor: Cursor, op: u64, ty: TypePos, t: TermPos)
     ensures { λ r. ⌜ Did (λ a. app a op (ty .0) (t .0 ∷ [])) (now (cells .entry)) (cursor .mark) (termReply r) (now (cells .exit)) ⌝ }
 {
     let members = [t.0];
-    term_node(cells, cursor, 100 + op, ty, 0, &members)
+    cursor.term_node(cells, 100 + op, ty, 0, &members)
 }
 
 pub fn app2(
@@ -213,7 +211,7 @@ pub fn app2(
     ensures { λ r. ⌜ Did (λ a. app a op (ty .0) (t .0 ∷ u .0 ∷ [])) (now (cells .entry)) (cursor .mark) (termReply r) (now (cells .exit)) ⌝ }
 {
     let members = [t.0, u.0];
-    term_node(cells, cursor, 100 + op, ty, 0, &members)
+    cursor.term_node(cells, 100 + op, ty, 0, &members)
 }
 
 // `app` of an uninterpreted function.
@@ -228,5 +226,5 @@ pub fn uninterpreted(
     ensures { λ r. ⌜ Did (λ a. uninterpretedOf a id (ty .0) (t .0)) (now (cells .entry)) (cursor .mark) (termReply r) (now (cells .exit)) ⌝ }
 {
     let members = [t.0];
-    term_node(cells, cursor, 126, ty, id, &members)
+    cursor.term_node(cells, 126, ty, id, &members)
 }

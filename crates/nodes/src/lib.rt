@@ -2,10 +2,6 @@
 use arena::HEADER;
 use arena::TermPos;
 use arena::TypePos;
-use arena::cursor::Cursor;
-use arena::cursor::NodeStep;
-use arena::cursor::TermStep;
-use arena::cursor::TypeStep;
 ghost use mathlib.Core.Path.{_≡_};
 ghost use mathlib.Core.Bool.{true};
 ghost use mathlib.Core.List.{_++_};
@@ -16,7 +12,31 @@ ghost use Rattle.arena.specs.Lists.{sameList};
 ghost use Rattle.arena.specs.Nodes.{node, header, size, same, find as findNode, put};
 ghost use Rattle.arena.specs.Cells.{cellsOf, used, nodeHere, after};
 ghost use Rattle.arena.specs.WellFormed.{Below, IsArena, goodNode};
-ghost use Rattle.arena.specs.Did.{Did, putTyped, foundOr, termReply, typeReply, nodeReply};
+ghost use Rattle.arena.specs.Did.{Did, putTyped, foundOr};
+ghost use Rattle.nodes.specs.Replies.{termReply, typeReply, nodeReply};
+
+// The cells below the mark are in use: the next node starts there.
+pub struct Cursor {
+    pub mark: usize,
+}
+
+// A term found or added and the cursor behind it, or no room.
+pub enum TermStep {
+    At(Cursor, TermPos),
+    Full,
+}
+
+// A type found or added and the cursor behind it, or no room.
+pub enum TypeStep {
+    At(Cursor, TypePos),
+    Full,
+}
+
+// The same of a node of either sort.
+pub enum NodeStep {
+    At(Cursor, u64),
+    Full,
+}
 
 // Whether these cells stand from `from` on.
 fn same_run(cells: &[u64], from: usize, run: &[u64]) -> bool
@@ -92,84 +112,73 @@ fn add(cells: &mut [u64], mark: usize, kind: u64, ty: u64, par: u64, members: &[
     copy_in(cells, mark + HEADER, members);
 }
 
-// The node is looked for, and added where it is not there.
-fn place(
-    cells: &mut [u64],
-    cursor: Cursor,
-    kind: u64,
-    ty: u64,
-    par: u64,
-    members: &[u64],
-) -> NodeStep
-    requires { ⌜ IsArena (now cells) (cursor .mark) ⌝ }
-    ensures { λ r. ⌜ Did (λ a. put a (node kind ty par (now (members .entry)))) (now (cells .entry)) (cursor .mark) (nodeReply r) (now (cells .exit)) ⌝ }
-{
-    let mark = cursor.mark;
-    let at = find(cells, mark, kind, ty, par, members);
-    let size = HEADER + members.len();
-    let needed = if at < mark { 0 } else { size };
-    if cells.len() - mark < needed {
-        return NodeStep::Full;
+impl Cursor {
+    // The node is looked for, and added where it is not there.
+    fn place(self, cells: &mut [u64], kind: u64, ty: u64, par: u64, members: &[u64]) -> NodeStep
+        requires { ⌜ IsArena (now cells) (self .mark) ⌝ }
+        ensures { λ r. ⌜ Did (λ a. put a (node kind ty par (now (members .entry)))) (now (cells .entry)) (self .mark) (nodeReply r) (now (cells .exit)) ⌝ }
+    {
+        let mark = self.mark;
+        let at = find(cells, mark, kind, ty, par, members);
+        let size = HEADER + members.len();
+        let needed = if at < mark { 0 } else { size };
+        if cells.len() - mark < needed {
+            return NodeStep::Full;
+        }
+        if at < mark {
+            return NodeStep::At(self, at as u64);
+        }
+        add(cells, mark, kind, ty, par, members);
+        NodeStep::At(Cursor { mark: mark + size }, mark as u64)
     }
-    if at < mark {
-        return NodeStep::At(cursor, at as u64);
-    }
-    add(cells, mark, kind, ty, par, members);
-    NodeStep::At(Cursor { mark: mark + size }, mark as u64)
-}
 
-// The term of this kind, type, parameter and members.
-pub fn term_node(
-    cells: &mut [u64],
-    cursor: Cursor,
-    kind: u64,
-    ty: TypePos,
-    par: u64,
-    members: &[u64],
-) -> TermStep
-    requires { ⌜ IsArena (now cells) (cursor .mark) ⌝ }
-    ensures { λ r. ⌜ Did (λ a. put a (node kind (ty .0) par (now (members .entry)))) (now (cells .entry)) (cursor .mark) (termReply r) (now (cells .exit)) ⌝ }
-{
-    match place(cells, cursor, kind, ty.0, par, members) {
-        NodeStep::At(next, p) => TermStep::At(next, TermPos(p)),
-        NodeStep::Full => TermStep::Full,
+    // The term of this kind, type, parameter and members.
+    pub fn term_node(
+        self,
+        cells: &mut [u64],
+        kind: u64,
+        ty: TypePos,
+        par: u64,
+        members: &[u64],
+    ) -> TermStep
+        requires { ⌜ IsArena (now cells) (self .mark) ⌝ }
+        ensures { λ r. ⌜ Did (λ a. put a (node kind (ty .0) par (now (members .entry)))) (now (cells .entry)) (self .mark) (termReply r) (now (cells .exit)) ⌝ }
+    {
+        match self.place(cells, kind, ty.0, par, members) {
+            NodeStep::At(next, p) => TermStep::At(next, TermPos(p)),
+            NodeStep::Full => TermStep::Full,
+        }
     }
-}
 
-// The type of this kind, parameter and members.
-pub fn type_node(
-    cells: &mut [u64],
-    cursor: Cursor,
-    kind: u64,
-    par: u64,
-    members: &[u64],
-) -> TypeStep
-    requires { ⌜ IsArena (now cells) (cursor .mark) ⌝ }
-    ensures { λ r. ⌜ Did (λ a. put a (node kind 0 par (now (members .entry)))) (now (cells .entry)) (cursor .mark) (typeReply r) (now (cells .exit)) ⌝ }
-{
-    match place(cells, cursor, kind, 0, par, members) {
-        NodeStep::At(next, p) => TypeStep::At(next, TypePos(p)),
-        NodeStep::Full => TypeStep::Full,
+    // The type of this kind, parameter and members.
+    pub fn type_node(self, cells: &mut [u64], kind: u64, par: u64, members: &[u64]) -> TypeStep
+        requires { ⌜ IsArena (now cells) (self .mark) ⌝ }
+        ensures { λ r. ⌜ Did (λ a. put a (node kind 0 par (now (members .entry)))) (now (cells .entry)) (self .mark) (typeReply r) (now (cells .exit)) ⌝ }
+    {
+        match self.place(cells, kind, 0, par, members) {
+            NodeStep::At(next, p) => TypeStep::At(next, TypePos(p)),
+            NodeStep::Full => TypeStep::Full,
+        }
     }
-}
 
-// The type is found or added before the term of it.
-pub fn typed_node(
-    cells: &mut [u64],
-    cursor: Cursor,
-    tkind: u64,
-    tpar: u64,
-    tmembers: &[u64],
-    kind: u64,
-    par: u64,
-    members: &[u64],
-) -> TermStep
-    requires { ⌜ IsArena (now cells) (cursor .mark) ⌝ }
-    requires { ⌜ goodNode (used (now cells) (cursor .mark)) (node tkind 0 tpar (now tmembers)) ≡ true ⌝ }
-    ensures { λ r. ⌜ Did (λ a. putTyped a (node tkind 0 tpar (now (tmembers .entry))) kind par (now (members .entry))) (now (cells .entry)) (cursor .mark) (termReply r) (now (cells .exit)) ⌝ }
-{
-    match type_node(cells, cursor, tkind, tpar, tmembers) {
-        TypeStep::At(next, t) => term_node(cells, next, kind, t, par, members),
-        TypeStep::Full => TermStep::Full,
+    // The type is found or added before the term of it.
+    pub fn typed_node(
+        self,
+        cells: &mut [u64],
+        tkind: u64,
+        tpar: u64,
+        tmembers: &[u64],
+        kind: u64,
+        par: u64,
+        members: &[u64],
+    ) -> TermStep
+        requires { ⌜ IsArena (now cells) (self .mark) ⌝ }
+        requires { ⌜ goodNode (used (now cells) (self .mark)) (node tkind 0 tpar (now tmembers)) ≡ true ⌝ }
+        ensures { λ r. ⌜ Did (λ a. putTyped a (node tkind 0 tpar (now (tmembers .entry))) kind par (now (members .entry))) (now (cells .entry)) (self .mark) (termReply r) (now (cells .exit)) ⌝ }
+    {
+        match self.type_node(cells, tkind, tpar, tmembers) {
+            TypeStep::At(next, t) => next.term_node(cells, kind, t, par, members),
+            TypeStep::Full => TermStep::Full,
+        }
     }
 }

@@ -2,7 +2,7 @@
 use borrow.Author.Needs.{needs}
 use mathlib.Core.Path.{ap, _∙_}
 use Rattle.table.proofs.Entry.{by-built, by-full}
-use Rattle.arena.specs.Did.{nodeReply}
+use Rattle.nodes.specs.Replies.{nodeReply}
 use borrow.Author.Needs.{needs}
 use Rattle.call.proofs.built.Statement.{statement}
 use Rattle.call.proofs.built.Tie as tie

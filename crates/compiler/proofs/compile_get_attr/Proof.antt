@@ -11,7 +11,7 @@ use Rattle.factory.proofs.Calls.{ready-wf, ready-next, term-pos}
 use Rattle.factory.proofs.Operands.{type-pos}
 use Rattle.factory.proofs.Records.{recordGet-law}
 use Rattle.arena.specs.Cells.{used}
-use Rattle.arena.specs.Did.{termReply}
+use Rattle.nodes.specs.Replies.{termReply}
 use Rattle.arena.specs.Lists.{fieldD}
 use Rattle.arena.specs.Nodes.{typeAt, memAt}
 use Rattle.arena.specs.WellFormed.{isTerm}

@@ -8,7 +8,7 @@ use Rattle.compiler.specs.Compiler.{gotten, inner}
 use Rattle.compiler.proofs.Gather.{Left, left-start, left-full, left-two, left-end, left-first, left-write}
 use Rattle.factory.proofs.Picks.{types-held}
 use Rattle.arena.specs.Cells.{cells, used}
-use Rattle.arena.specs.Did.{termReply}
+use Rattle.nodes.specs.Replies.{termReply}
 use Rattle.arena.specs.Nodes.{mark, out}
 use borrow.Author.Needs.{needs}
 use Rattle.compiler.proofs.get_fields.Statement.{statement}

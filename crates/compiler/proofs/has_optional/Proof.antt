@@ -9,7 +9,7 @@ use Rattle.factory.proofs.Made.{some-law}
 use Rattle.factory.proofs.Operands.{opt-of}
 use Rattle.factory.proofs.Options.{isSome-law}
 use Rattle.factory.proofs.Records.{recordGet-law}
-use Rattle.arena.specs.Did.{termReply}
+use Rattle.nodes.specs.Replies.{termReply}
 use Rattle.arena.specs.Lists.{fieldD}
 use Rattle.arena.proofs.Ext.{ext-trans}
 use Rattle.arena.proofs.Steps.{did-then, did-stop}

@@ -8,7 +8,7 @@ use Rattle.factory.proofs.Calls.{ready-wf, ready-next}
 use Rattle.factory.proofs.Made.{some-law}
 use Rattle.factory.proofs.Operands.{opt-of}
 use Rattle.factory.proofs.Options.{isSome-law}
-use Rattle.arena.specs.Did.{termReply}
+use Rattle.nodes.specs.Replies.{termReply}
 use Rattle.arena.specs.WellFormed.{isTerm}
 use Rattle.arena.proofs.Steps.{did-then, did-stop}
 use borrow.Author.Needs.{needs}

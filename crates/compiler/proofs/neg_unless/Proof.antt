@@ -9,7 +9,7 @@ use Rattle.factory.proofs.Bits.{bvneg-law}
 use Rattle.factory.proofs.Calls.{ready-wf, ready-next}
 use Rattle.factory.proofs.Guards.{ifFalse-law}
 use Rattle.factory.proofs.Law.{typed-ext, bv-typed}
-use Rattle.arena.specs.Did.{termReply}
+use Rattle.nodes.specs.Replies.{termReply}
 use Rattle.arena.specs.Values.{tbool}
 use Rattle.arena.specs.WellFormed.{isTerm}
 use Rattle.arena.proofs.Steps.{did-then, did-stop}

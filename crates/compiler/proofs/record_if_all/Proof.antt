@@ -8,7 +8,7 @@ use Rattle.factory.proofs.Calls.{ready-wf, ready-next}
 use Rattle.factory.proofs.Guards.{options-ext, ifAllSome-law}
 use Rattle.factory.proofs.Listed.{record-law}
 use Rattle.factory.proofs.Made.{some-law}
-use Rattle.arena.specs.Did.{termReply}
+use Rattle.nodes.specs.Replies.{termReply}
 use Rattle.arena.specs.WellFormed.{isTerm}
 use Rattle.arena.proofs.Ext.{ext-trans}
 use Rattle.arena.proofs.Steps.{did-then, did-stop}

@@ -3,7 +3,7 @@ use borrow.Author.Needs.{needs}
 use mathlib.Core.Path.{ap}
 use Rattle.table.proofs.Dispatch.{accepted-known, a-type}
 use Rattle.arena.specs.Cells.{used}
-use Rattle.arena.specs.Did.{typeReply, termReply}
+use Rattle.nodes.specs.Replies.{typeReply, termReply}
 use Rattle.arena.proofs.Steps.{seen}
 use borrow.Author.Needs.{needs}
 use Rattle.dispatch.proofs.build.Statement.{statement}

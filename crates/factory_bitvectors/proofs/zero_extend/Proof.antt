@@ -7,7 +7,7 @@ use Rattle.factory.specs.Bitvectors.{extendedTo, zeroExtendT}
 use Rattle.factory.specs.Fit.{OfKind}
 use Rattle.factory.proofs.Calls.{ready-wf, ready-next}
 use Rattle.factory.proofs.Operands.{wider-type, bv-keep, extended-ext}
-use Rattle.arena.specs.Did.{typeReply}
+use Rattle.nodes.specs.Replies.{typeReply}
 use Rattle.arena.specs.Nodes.{widthAt}
 use Rattle.arena.proofs.Steps.{did-then, did-stop, picked}
 use borrow.Author.Needs.{needs}

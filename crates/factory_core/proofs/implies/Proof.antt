@@ -2,7 +2,7 @@
 use borrow.Author.Needs.{needs}
 use mathlib.Core.Path.{ap}
 use Rattle.arena.specs.Values.{tbool}
-use Rattle.arena.specs.Did.{termReply}
+use Rattle.nodes.specs.Replies.{termReply}
 use Rattle.arena.proofs.Steps.{did-then, did-stop}
 use Rattle.factory.specs.Fit.{Typed}
 use Rattle.factory.specs.Core.{orT, implies}

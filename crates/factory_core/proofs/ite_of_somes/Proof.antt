@@ -3,7 +3,7 @@ use borrow.Author.Needs.{needs}
 use mathlib.Core.Path.{_≡_, ap}
 use mathlib.Core.Bool.{true}
 use Rattle.arena.specs.WellFormed.{isTerm}
-use Rattle.arena.specs.Did.{termReply}
+use Rattle.nodes.specs.Replies.{termReply}
 use Rattle.arena.proofs.Steps.{did-then, did-stop}
 use Rattle.factory.specs.Makers.{someOf}
 use Rattle.factory.specs.Core.{iteOfSomes}

@@ -8,7 +8,7 @@ use Rattle.factory.proofs.Calls.{ready-wf, ready-next}
 use Rattle.factory.proofs.Law.{set-typed}
 use Rattle.factory.proofs.Logic.{not-law}
 use Rattle.factory.proofs.SetLaws.{isEmpty-law}
-use Rattle.arena.specs.Did.{termReply}
+use Rattle.nodes.specs.Replies.{termReply}
 use Rattle.arena.specs.Values.{tbool}
 use Rattle.arena.proofs.Steps.{did-then, did-stop}
 use borrow.Author.Needs.{needs}

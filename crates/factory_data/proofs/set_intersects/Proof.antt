@@ -8,7 +8,7 @@ use Rattle.factory.proofs.Law.{set-typed, set-kind}
 use Rattle.factory.proofs.Logic.{not-law}
 use Rattle.factory.proofs.Operands.{set-alike}
 use Rattle.factory.proofs.SetLaws.{isEmpty-law, inter-law}
-use Rattle.arena.specs.Did.{termReply}
+use Rattle.nodes.specs.Replies.{termReply}
 use Rattle.arena.proofs.Ext.{ext-trans}
 use Rattle.arena.proofs.Steps.{did-then, did-stop}
 use borrow.Author.Needs.{needs}

@@ -12,7 +12,7 @@ use Rattle.factory.proofs.Operands.{alike}
 use Rattle.factory.proofs.Picks.{nil-length}
 use Rattle.factory.proofs.SetLaws.{empty-law}
 use Rattle.arena.specs.Cells.{used}
-use Rattle.arena.specs.Did.{termReply}
+use Rattle.nodes.specs.Replies.{termReply}
 use Rattle.arena.specs.Nodes.{typeAt, memAt}
 use Rattle.arena.proofs.Steps.{did-then, did-stop, did-here, picked}
 use borrow.Author.Needs.{needs}

@@ -7,7 +7,7 @@ use native.Mathlib.Omega.{arith}
 use Rattle.factory.specs.Helpers.{anyNone}
 use Rattle.factory.proofs.Turns.{Left, left-start, left-next, left-full, left-one, left-none, left-end}
 use Rattle.arena.specs.Cells.{cells, used}
-use Rattle.arena.specs.Did.{termReply}
+use Rattle.nodes.specs.Replies.{termReply}
 use Rattle.arena.specs.Nodes.{mark}
 use borrow.Author.Needs.{needs}
 use Rattle.factory_helpers.proofs.any_none.Statement.{statement}

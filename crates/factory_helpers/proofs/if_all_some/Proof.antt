@@ -7,7 +7,7 @@ use Rattle.factory.specs.Helpers.{guarded, ifAllSome}
 use Rattle.factory.proofs.Calls.{ready-wf, ready-next}
 use Rattle.factory.proofs.Guards.{guarded-law, anyNone-law}
 use Rattle.factory.proofs.Law.{typed-ext, typed-self}
-use Rattle.arena.specs.Did.{termReply}
+use Rattle.nodes.specs.Replies.{termReply}
 use Rattle.arena.specs.Values.{tbool}
 use Rattle.arena.specs.WellFormed.{isTerm}
 use Rattle.arena.proofs.Chain.{term-ext}

@@ -5,7 +5,7 @@ use mathlib.Core.Bool.{true}
 use Rattle.arena.specs.WellFormed.{isTerm}
 use Rattle.arena.specs.Values.{tbool, topt}
 use Rattle.arena.specs.Meaning.{tyOf, tyAt}
-use Rattle.arena.specs.Did.{termReply}
+use Rattle.nodes.specs.Replies.{termReply}
 use Rattle.arena.proofs.Chain.{term-type}
 use Rattle.arena.proofs.Ext.{ext-trans}
 use Rattle.arena.proofs.Steps.{did-then, did-stop, picked}

@@ -9,7 +9,7 @@ use Rattle.factory.proofs.Guards.{guarded-law}
 use Rattle.factory.proofs.Law.{typed-ext, typed-self}
 use Rattle.factory.proofs.Operands.{opt-of}
 use Rattle.factory.proofs.Options.{isNone-law}
-use Rattle.arena.specs.Did.{termReply}
+use Rattle.nodes.specs.Replies.{termReply}
 use Rattle.arena.specs.Values.{tbool}
 use Rattle.arena.specs.WellFormed.{isTerm}
 use Rattle.arena.proofs.Chain.{term-ext}

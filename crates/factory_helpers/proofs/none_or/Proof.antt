@@ -9,7 +9,7 @@ use Rattle.factory.proofs.Choice.{ite-law}
 use Rattle.factory.proofs.Law.{typed-ext}
 use Rattle.factory.proofs.Made.{none-law}
 use Rattle.factory.proofs.Operands.{opt-of, alike, opt-type}
-use Rattle.arena.specs.Did.{termReply}
+use Rattle.nodes.specs.Replies.{termReply}
 use Rattle.arena.specs.Meaning.{tyOf}
 use Rattle.arena.specs.Values.{tbool}
 use Rattle.arena.proofs.Steps.{did-then, did-stop, picked}

@@ -9,7 +9,7 @@ use Rattle.factory.proofs.Law.{typed-ext}
 use Rattle.factory.proofs.Logic.{or-law}
 use Rattle.factory.proofs.Operands.{opt-of}
 use Rattle.factory.proofs.Options.{isNone-law}
-use Rattle.arena.specs.Did.{termReply}
+use Rattle.nodes.specs.Replies.{termReply}
 use Rattle.arena.specs.Values.{tbool}
 use Rattle.arena.proofs.Steps.{did-then, did-stop}
 use borrow.Author.Needs.{needs}

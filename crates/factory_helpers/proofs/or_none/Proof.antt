@@ -3,7 +3,7 @@ use borrow.Author.Needs.{needs}
 use mathlib.Core.Path.{refl, ap}
 use Rattle.arena.specs.Values.{tbool}
 use Rattle.arena.specs.Meaning.{tyOf}
-use Rattle.arena.specs.Did.{termReply}
+use Rattle.nodes.specs.Replies.{termReply}
 use Rattle.arena.proofs.Chain.{term-type}
 use Rattle.arena.proofs.Steps.{did-then, did-stop, picked}
 use Rattle.factory.specs.Fit.{Typed, Alike}

@@ -1,10 +1,10 @@
--- `nodes::term_node` meets its contract. Assumes nothing.
+-- `nodes::Cursor::type_node` meets its contract. Assumes nothing.
 use borrow.Author.Needs.{needs}
 use mathlib.Core.Path.{ap}
-use Rattle.arena.specs.Did.{nodeReply}
+use Rattle.nodes.specs.Replies.{nodeReply}
 use Rattle.arena.proofs.Steps.{seen}
-use Rattle.nodes.proofs.term_node.Statement.{statement}
-use Rattle.nodes.proofs.term_node.Tie as tie
+use Rattle.nodes.proofs.Cursor.type_node.Statement.{statement}
+use Rattle.nodes.proofs.Cursor.type_node.Tie as tie
 
 place-requires : tie.Need-place-requires
 place-requires c κs = search needs
@@ -27,7 +27,7 @@ same-length-2 c = search needs
 returns-2 : tie.Need-returns-2
 returns-2 c = seen (ap nodeReply (c .enum-told .given .1)) (c .before .before .before .before .place .ensures)
 
-pub term-node-spec : {M : Type 1} → statement M
-term-node-spec =
+pub type-node-spec : {M : Type 1} → statement M
+type-node-spec =
     tie.close
     (tie.spec place-requires enum-known-next enum-told same-length returns same-length-2 returns-2)

@@ -1,13 +1,13 @@
--- `nodes::typed_node` meets its contract. Assumes nothing.
+-- `nodes::Cursor::typed_node` meets its contract. Assumes nothing.
 use borrow.Author.Needs.{needs}
 use mathlib.Core.Path.{ap}
-use Rattle.arena.specs.Did.{typeReply}
+use Rattle.nodes.specs.Replies.{typeReply}
 use Rattle.arena.specs.Nodes.{node, put}
 use Rattle.arena.proofs.Formed.{wf}
 use Rattle.arena.proofs.Put.{put-wf}
 use Rattle.arena.proofs.Steps.{then-arena, did-then, did-stop, put-ext}
-use Rattle.nodes.proofs.typed_node.Statement.{statement}
-use Rattle.nodes.proofs.typed_node.Tie as tie
+use Rattle.nodes.proofs.Cursor.typed_node.Statement.{statement}
+use Rattle.nodes.proofs.Cursor.typed_node.Tie as tie
 
 type-node-requires : tie.Need-type-node-requires
 type-node-requires c κs = search needs

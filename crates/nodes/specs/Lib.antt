@@ -1,0 +1,2 @@
+-- What the answers of a builder stand for.
+pub mod Replies
