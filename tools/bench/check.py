@@ -22,7 +22,7 @@ PAGE = ROOT / "docs" / "SCRIPTS.md"
 # what runs a proved program on any processor
 RUN = subprocess.run([ROOT / "tools/run", "--words"], stdout=subprocess.PIPE, text=True, check=True).stdout.splitlines()
 EXAMPLE = ROOT / "examples" / "version.hex"
-TABLES = [(ROOT / "crates/script/proofs/Examples.antt", "examples"), (ROOT / "crates/examples/proofs/Damaged.antt", "damaged")]
+TABLES = [(ROOT / "crates/script/proofs/Examples.antt", "examples"), (ROOT / "crates/cut_scripts/proofs/Damaged.antt", "damaged")]
 
 LONGEST = 65_536
 BAD = "refused 10"

@@ -1,6 +1,6 @@
 // One call on a lent arena: the instruction by value, any cells, any mark.
 use arena::cells::clear_back;
-use dispatch::build;
+use build::build;
 use instruction::Instruction;
 use nodes::Cursor;
 use nodes::NodeStep;
@@ -15,6 +15,8 @@ ghost use Rattle.factory.specs.Fit.{Ready};
 ghost use Rattle.instruction.specs.Instruction.{instrOf};
 ghost use Rattle.table.specs.Forms.{instr, listed, Passes, Held};
 ghost use Rattle.table.specs.Answers.{Answered};
+
+mod build;
 
 // An instruction that no test refuses: what it builds, or 9.
 fn built(cells: &mut [u64], mark: usize, op: u64, par: u64, xs: &[u64]) -> Answer

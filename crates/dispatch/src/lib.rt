@@ -1,29 +1,28 @@
-// The dispatcher: an accepted instruction's operation is decided by its number, and builds as the table says.
+// The dispatcher, the factory's operations: each is decided by its number, and builds as the table says.
 use arena::TermPos;
 use arena::TypePos;
 use bitvec::Width;
 use nodes::Cursor;
-use nodes::NodeStep;
 use nodes::TermStep;
 use nodes::TypeStep;
 ghost use mathlib.Core.Path.{_≡_};
 ghost use Prim.Native.Nat.{_≤_};
 ghost use lib.ListN.{getD, drop};
 ghost use Rattle.arena.specs.Did.{Did};
-ghost use Rattle.nodes.specs.Replies.{termReply, typeReply, nodeReply};
+ghost use Rattle.nodes.specs.Replies.{termReply, typeReply};
 ghost use Rattle.factory.specs.Fit.{Ready};
 ghost use Rattle.table.specs.Table.{row};
 ghost use Rattle.table.specs.Forms.{Passes};
 
 // Operand i, 0 past their end.
-fn operand(xs: &[u64], i: usize) -> u64
+pub fn operand(xs: &[u64], i: usize) -> u64
     ensures { λ r. ⌜ r ≡ getD (now (xs .entry)) i 0 ⌝ }
 {
     if i < xs.len() { xs[i] } else { 0 }
 }
 
 // The operands after the first.
-fn rest(xs: &[u64]) -> &[u64]
+pub fn rest(xs: &[u64]) -> &[u64]
     ensures { λ r. ⌜ now r ≡ drop 1 (now (xs .entry)) ⌝ }
 {
     if xs.len() == 0 {
@@ -33,7 +32,7 @@ fn rest(xs: &[u64]) -> &[u64]
 }
 
 // Types: 1 to 5.
-fn build_type(cells: &mut [u64], cursor: Cursor, op: u64, par: u64, xs: &[u64]) -> TypeStep
+pub fn build_type(cells: &mut [u64], cursor: Cursor, op: u64, par: u64, xs: &[u64]) -> TypeStep
     requires { ⌜ Ready (λ a. Passes a op par (now xs)) (now cells) (cursor .mark) ⌝ }
     requires { ⌜ 1 ≤ op × op ≤ 5 ⌝ }
     ensures { λ r. ⌜ Did (λ a. row op .build a par (now (xs .entry))) (now (cells .entry)) (cursor .mark) (typeReply r) (now (cells .exit)) ⌝ }
@@ -50,7 +49,7 @@ fn build_type(cells: &mut [u64], cursor: Cursor, op: u64, par: u64, xs: &[u64]) 
 }
 
 // Makers: 10 to 16.
-fn build_maker(cells: &mut [u64], cursor: Cursor, op: u64, par: u64, xs: &[u64]) -> TermStep
+pub fn build_maker(cells: &mut [u64], cursor: Cursor, op: u64, par: u64, xs: &[u64]) -> TermStep
     requires { ⌜ Ready (λ a. Passes a op par (now xs)) (now cells) (cursor .mark) ⌝ }
     requires { ⌜ 10 ≤ op × op ≤ 16 ⌝ }
     ensures { λ r. ⌜ Did (λ a. row op .build a par (now (xs .entry))) (now (cells .entry)) (cursor .mark) (termReply r) (now (cells .exit)) ⌝ }
@@ -68,7 +67,7 @@ fn build_maker(cells: &mut [u64], cursor: Cursor, op: u64, par: u64, xs: &[u64])
 }
 
 // Core: 20 to 26.
-fn build_core(cells: &mut [u64], cursor: Cursor, op: u64, par: u64, xs: &[u64]) -> TermStep
+pub fn build_core(cells: &mut [u64], cursor: Cursor, op: u64, par: u64, xs: &[u64]) -> TermStep
     requires { ⌜ Ready (λ a. Passes a op par (now xs)) (now cells) (cursor .mark) ⌝ }
     requires { ⌜ 20 ≤ op × op ≤ 26 ⌝ }
     ensures { λ r. ⌜ Did (λ a. row op .build a par (now (xs .entry))) (now (cells .entry)) (cursor .mark) (termReply r) (now (cells .exit)) ⌝ }
@@ -87,7 +86,7 @@ fn build_core(cells: &mut [u64], cursor: Cursor, op: u64, par: u64, xs: &[u64]) 
 }
 
 // Bitvectors: 30 to 49.
-fn build_bitvector(cells: &mut [u64], cursor: Cursor, op: u64, par: u64, xs: &[u64]) -> TermStep
+pub fn build_bitvector(cells: &mut [u64], cursor: Cursor, op: u64, par: u64, xs: &[u64]) -> TermStep
     requires { ⌜ Ready (λ a. Passes a op par (now xs)) (now cells) (cursor .mark) ⌝ }
     requires { ⌜ 30 ≤ op × op ≤ 49 ⌝ }
     ensures { λ r. ⌜ Did (λ a. row op .build a par (now (xs .entry))) (now (cells .entry)) (cursor .mark) (termReply r) (now (cells .exit)) ⌝ }
@@ -113,7 +112,7 @@ fn build_bitvector(cells: &mut [u64], cursor: Cursor, op: u64, par: u64, xs: &[u
 }
 
 // Sets, options and records: 50 to 56.
-fn build_data(cells: &mut [u64], cursor: Cursor, op: u64, par: u64, xs: &[u64]) -> TermStep
+pub fn build_data(cells: &mut [u64], cursor: Cursor, op: u64, par: u64, xs: &[u64]) -> TermStep
     requires { ⌜ Ready (λ a. Passes a op par (now xs)) (now cells) (cursor .mark) ⌝ }
     requires { ⌜ 50 ≤ op × op ≤ 56 ⌝ }
     ensures { λ r. ⌜ Did (λ a. row op .build a par (now (xs .entry))) (now (cells .entry)) (cursor .mark) (termReply r) (now (cells .exit)) ⌝ }
@@ -132,7 +131,7 @@ fn build_data(cells: &mut [u64], cursor: Cursor, op: u64, par: u64, xs: &[u64]) 
 }
 
 // Helpers: 60 to 66.
-fn build_helper(cells: &mut [u64], cursor: Cursor, op: u64, par: u64, xs: &[u64]) -> TermStep
+pub fn build_helper(cells: &mut [u64], cursor: Cursor, op: u64, par: u64, xs: &[u64]) -> TermStep
     requires { ⌜ Ready (λ a. Passes a op par (now xs)) (now cells) (cursor .mark) ⌝ }
     requires { ⌜ 60 ≤ op × op ≤ 66 ⌝ }
     ensures { λ r. ⌜ Did (λ a. row op .build a par (now (xs .entry))) (now (cells .entry)) (cursor .mark) (termReply r) (now (cells .exit)) ⌝ }
@@ -147,63 +146,5 @@ fn build_helper(cells: &mut [u64], cursor: Cursor, op: u64, par: u64, xs: &[u64]
         64 => factory_helpers::if_some(cells, cursor, x, y),
         65 => factory_helpers::any_none(cells, cursor, xs),
         _ => factory_helpers::if_all_some(cells, cursor, rest(xs), x),
-    }
-}
-
-// Compiled: 70 to 75.
-fn build_compiled(cells: &mut [u64], cursor: Cursor, op: u64, par: u64, xs: &[u64]) -> TermStep
-    requires { ⌜ Ready (λ a. Passes a op par (now xs)) (now cells) (cursor .mark) ⌝ }
-    requires { ⌜ 70 ≤ op × op ≤ 75 ⌝ }
-    ensures { λ r. ⌜ Did (λ a. row op .build a par (now (xs .entry))) (now (cells .entry)) (cursor .mark) (termReply r) (now (cells .exit)) ⌝ }
-{
-    let x = TermPos(operand(xs, 0));
-    match op {
-        70 => compiler::compile_not(cells, cursor, x),
-        71 => compiler::compile_neg(cells, cursor, x),
-        72 => compiler::compile_is_empty(cells, cursor, x),
-        73 => compiler::compile_record(cells, cursor, xs),
-        74 => compiler::compile_has_attr(cells, cursor, par, x),
-        _ => compiler::compile_get_attr(cells, cursor, par, x),
-    }
-}
-
-// A term: 10 to 75.
-fn build_term(cells: &mut [u64], cursor: Cursor, op: u64, par: u64, xs: &[u64]) -> TermStep
-    requires { ⌜ Ready (λ a. Passes a op par (now xs)) (now cells) (cursor .mark) ⌝ }
-    requires { ⌜ 10 ≤ op ⌝ }
-    ensures { λ r. ⌜ Did (λ a. row op .build a par (now (xs .entry))) (now (cells .entry)) (cursor .mark) (termReply r) (now (cells .exit)) ⌝ }
-{
-    if op <= 16 {
-        return build_maker(cells, cursor, op, par, xs);
-    }
-    if op <= 26 {
-        return build_core(cells, cursor, op, par, xs);
-    }
-    if op <= 49 {
-        return build_bitvector(cells, cursor, op, par, xs);
-    }
-    if op <= 56 {
-        return build_data(cells, cursor, op, par, xs);
-    }
-    if op <= 66 {
-        return build_helper(cells, cursor, op, par, xs);
-    }
-    build_compiled(cells, cursor, op, par, xs)
-}
-
-// What the operation builds, a type or a term.
-pub fn build(cells: &mut [u64], cursor: Cursor, op: u64, par: u64, xs: &[u64]) -> NodeStep
-    requires { ⌜ Ready (λ a. Passes a op par (now xs)) (now cells) (cursor .mark) ⌝ }
-    ensures { λ r. ⌜ Did (λ a. row op .build a par (now (xs .entry))) (now (cells .entry)) (cursor .mark) (nodeReply r) (now (cells .exit)) ⌝ }
-{
-    if op < 10 {
-        return match build_type(cells, cursor, op, par, xs) {
-            TypeStep::At(next, t) => NodeStep::At(next, t.0),
-            TypeStep::Full => NodeStep::Full,
-        };
-    }
-    match build_term(cells, cursor, op, par, xs) {
-        TermStep::At(next, t) => NodeStep::At(next, t.0),
-        TermStep::Full => NodeStep::Full,
     }
 }

@@ -1,0 +1,77 @@
+// The whole dispatcher: the compiled operators by number, and then every operation.
+use arena::TermPos;
+use dispatch::build_bitvector;
+use dispatch::build_core;
+use dispatch::build_data;
+use dispatch::build_helper;
+use dispatch::build_maker;
+use dispatch::build_type;
+use dispatch::operand;
+use nodes::Cursor;
+use nodes::NodeStep;
+use nodes::TermStep;
+use nodes::TypeStep;
+ghost use Prim.Native.Nat.{_≤_};
+ghost use Rattle.arena.specs.Did.{Did};
+ghost use Rattle.nodes.specs.Replies.{termReply, nodeReply};
+ghost use Rattle.factory.specs.Fit.{Ready};
+ghost use Rattle.table.specs.Table.{row};
+ghost use Rattle.table.specs.Forms.{Passes};
+
+// Compiled: 70 to 75.
+fn build_compiled(cells: &mut [u64], cursor: Cursor, op: u64, par: u64, xs: &[u64]) -> TermStep
+    requires { ⌜ Ready (λ a. Passes a op par (now xs)) (now cells) (cursor .mark) ⌝ }
+    requires { ⌜ 70 ≤ op × op ≤ 75 ⌝ }
+    ensures { λ r. ⌜ Did (λ a. row op .build a par (now (xs .entry))) (now (cells .entry)) (cursor .mark) (termReply r) (now (cells .exit)) ⌝ }
+{
+    let x = TermPos(operand(xs, 0));
+    match op {
+        70 => compiled::compile_not(cells, cursor, x),
+        71 => compiled::compile_neg(cells, cursor, x),
+        72 => compiled::compile_is_empty(cells, cursor, x),
+        73 => compiled::compile_record(cells, cursor, xs),
+        74 => compiled::compile_has_attr(cells, cursor, par, x),
+        _ => compiled::compile_get_attr(cells, cursor, par, x),
+    }
+}
+
+// A term: 10 to 75.
+fn build_term(cells: &mut [u64], cursor: Cursor, op: u64, par: u64, xs: &[u64]) -> TermStep
+    requires { ⌜ Ready (λ a. Passes a op par (now xs)) (now cells) (cursor .mark) ⌝ }
+    requires { ⌜ 10 ≤ op ⌝ }
+    ensures { λ r. ⌜ Did (λ a. row op .build a par (now (xs .entry))) (now (cells .entry)) (cursor .mark) (termReply r) (now (cells .exit)) ⌝ }
+{
+    if op <= 16 {
+        return build_maker(cells, cursor, op, par, xs);
+    }
+    if op <= 26 {
+        return build_core(cells, cursor, op, par, xs);
+    }
+    if op <= 49 {
+        return build_bitvector(cells, cursor, op, par, xs);
+    }
+    if op <= 56 {
+        return build_data(cells, cursor, op, par, xs);
+    }
+    if op <= 66 {
+        return build_helper(cells, cursor, op, par, xs);
+    }
+    build_compiled(cells, cursor, op, par, xs)
+}
+
+// What the operation builds, a type or a term.
+pub fn build(cells: &mut [u64], cursor: Cursor, op: u64, par: u64, xs: &[u64]) -> NodeStep
+    requires { ⌜ Ready (λ a. Passes a op par (now xs)) (now cells) (cursor .mark) ⌝ }
+    ensures { λ r. ⌜ Did (λ a. row op .build a par (now (xs .entry))) (now (cells .entry)) (cursor .mark) (nodeReply r) (now (cells .exit)) ⌝ }
+{
+    if op < 10 {
+        return match build_type(cells, cursor, op, par, xs) {
+            TypeStep::At(next, t) => NodeStep::At(next, t.0),
+            TypeStep::Full => NodeStep::Full,
+        };
+    }
+    match build_term(cells, cursor, op, par, xs) {
+        TermStep::At(next, t) => NodeStep::At(next, t.0),
+        TermStep::Full => NodeStep::Full,
+    }
+}
