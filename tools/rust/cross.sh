@@ -12,7 +12,7 @@ command -v cargo >/dev/null || not_tested "$1" "there is no cargo"
 if [ "$(uname -m)" != x86_64 ]; then
     command -v dpkg >/dev/null || not_tested "$1" "the library links into x86-64 programs alone, and there is no dpkg"
     { dpkg --print-foreign-architectures | grep -qx amd64 || dpkg --add-architecture amd64; } 2>/dev/null &&
-        tools/install.sh rustc-web libstd-rust-web-dev:amd64 libc6:amd64 gcc-x86-64-linux-gnu qemu-user 2>/dev/null ||
+        tools/install.sh rustc-web libstd-rust-web-dev:amd64 libc6:amd64 gcc-x86-64-linux-gnu libc6-dev-amd64-cross qemu-user 2>/dev/null ||
         not_tested "$1" "the library links into x86-64 programs alone, and Debian's cross compiler and emulator are not to be had"
     # a compiler and a standard library of one version: Debian's
     export RUSTC=/usr/bin/rustc RUSTDOC=/usr/bin/rustdoc
