@@ -7,10 +7,10 @@ use mathlib.Core.List.{List, [], _∷_, _++_}
 use lib.ListN.{length, take}
 use lib.Dec.{eqb, leb}
 use borrow.Author.Tests.{leb-true, not-true}
-use Rattle.bitvec.specs.Theory.{nat2bv, extract, allOnes, bvnot, bvneg, bvadd, bvmul, bvudiv, bvurem, bvshl, bvlshr, bvult, concat}
-use Rattle.bitvec.specs.Logic.{byTop, byTops, bvsub, bvsdiv, bvsrem, bvsmod, bvsmodOf, bvabs, bvule, bvslt, bvsle, top, zeroExtend}
-use Rattle.bitvec.specs.Overflow.{bv2int, outside, bvnego, bvsaddo, bvssubo, bvsmulo}
-use Rattle.bitvec.specs.Numbered.{bvappOf, bvcmpOf, bvsoOf}
+use Rattle.smtlib.specs.Theory.{nat2bv, extract, allOnes, bvnot, bvneg, bvadd, bvmul, bvudiv, bvurem, bvshl, bvlshr, bvult, concat}
+use Rattle.smtlib.specs.Logic.{byTop, byTops, bvsub, bvsdiv, bvsrem, bvsmod, bvsmodOf, bvabs, bvule, bvslt, bvsle, top, zeroExtend}
+use Rattle.smtlib.specs.Overflow.{bv2int, outside, bvnego, bvsaddo, bvssubo, bvsmulo}
+use Rattle.smtlib.specs.Numbered.{bvappOf, bvcmpOf, bvsoOf}
 use Rattle.arena.specs.Lists.{every, all, any, sameList, evens, odds, field, holdsField, rising}
 use Rattle.arena.specs.Nodes.{Node, node, Nodes, mark, over, nodeAt, positions, keys, fieldTypes, same, find, fresh}
 use Rattle.arena.specs.Cells.{cells, padded, parseOn, parse, used}

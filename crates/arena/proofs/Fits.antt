@@ -10,8 +10,8 @@ use mathlib.Core.List.{List, [], _∷_, map}
 use lib.Dec.{eqb}
 use lib.Pow.{pow-pos, pow-mono}
 use borrow.Author.Tests.{eq-eqb, eqb-true, lt-ltb, ltb-true}
-use Rattle.bitvec.specs.Theory.{concat}
-use Rattle.bitvec.specs.Logic.{zeroExtend}
+use Rattle.smtlib.specs.Theory.{concat}
+use Rattle.smtlib.specs.Logic.{zeroExtend}
 use Rattle.arena.specs.Lists.{every, all, evens, odds, field}
 use Rattle.arena.specs.Nodes.{Nodes, typeAt, fieldTypes}
 use Rattle.arena.specs.WellFormed.{isTerm}

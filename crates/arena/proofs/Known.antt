@@ -8,7 +8,7 @@ use mathlib.Core.List.{List, map}
 use lib.ListN.{length}
 use lib.Dec.{eqb}
 use borrow.Author.Tests.{eqb-true, eqb-false, leb-true, le-leb, ltb-true}
-use Rattle.bitvec.specs.Theory.{bvneg}
+use Rattle.smtlib.specs.Theory.{bvneg}
 use Rattle.arena.specs.Lists.{all, evens, odds, rising}
 use Rattle.arena.specs.Nodes.{Node, node, Nodes, nodeAt, kindAt, typeAt, parAt, memAt, argAt, elemAt, widthAt, positions, keys, fieldTypes, F, T}
 use Rattle.arena.specs.Walks.{ruled, litRule, isLit}

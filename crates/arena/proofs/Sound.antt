@@ -6,8 +6,8 @@ use mathlib.Core.Bool.{Bool, true, false, cond}
 use mathlib.Core.List.{[], _∷_, map}
 use lib.Dec.{eqb, leb}
 use borrow.Author.Tests.{ne-eqb, eqb-true, eqb-false, leb-true, leb-false, le-leb, lt-leb, lt-ltb}
-use Rattle.bitvec.specs.Numbered.{bvappOf, bvcmpOf, bvsoOf}
-use Rattle.bitvec.proofs.Below.{bvneg-lt, bvapp-lt}
+use Rattle.smtlib.specs.Numbered.{bvappOf, bvcmpOf, bvsoOf}
+use Rattle.smtlib.proofs.Below.{bvneg-lt, bvapp-lt}
 use Rattle.arena.specs.Lists.{evens, odds}
 use Rattle.arena.specs.Nodes.{Node, node, Nodes, mark, kindAt, typeAt, parAt, memAt, argAt, positions, args, keys, fieldTypes, fresh}
 use Rattle.arena.specs.WellFormed.{isType, isTerm}

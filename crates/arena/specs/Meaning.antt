@@ -5,10 +5,10 @@ use mathlib.Core.Bool.{true, not, cond, _&&_, _||_}
 use mathlib.Core.List.{List, [], _∷_, map}
 use lib.ListN.{getD}
 use lib.Dec.{eqb, leb}
-use Rattle.bitvec.specs.Theory.{bvneg}
-use Rattle.bitvec.specs.Logic.{zeroExtend}
-use Rattle.bitvec.specs.Overflow.{bvnego}
-use Rattle.bitvec.specs.Numbered.{bvappOf, bvcmpOf, bvsoOf}
+use Rattle.smtlib.specs.Theory.{bvneg}
+use Rattle.smtlib.specs.Logic.{zeroExtend}
+use Rattle.smtlib.specs.Overflow.{bvnego}
+use Rattle.smtlib.specs.Numbered.{bvappOf, bvcmpOf, bvsoOf}
 use Rattle.arena.specs.Nodes.{Node, Nodes, over, typeAt, args, keys}
 use Rattle.arena.specs.Values.{Ty, tbool, tbv, topt, tset, trec, TFields, tnil, tcons, Value, bool, bits, vnone, vsome, vset, vrec, eqV, setV, memV, subsetV, interV, recV, fieldV, asBool, asBits, asSet, asRec, getOr, fits, zeroOf}
 

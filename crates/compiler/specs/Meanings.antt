@@ -3,8 +3,8 @@ use Prim.Native.Nat.{ℕ}
 use mathlib.Core.Bool.{Bool, false, not, cond, _&&_, _||_}
 use mathlib.Core.List.{List, map}
 use lib.Dec.{eqb}
-use Rattle.bitvec.specs.Theory.{bvneg}
-use Rattle.bitvec.specs.Overflow.{bvnego}
+use Rattle.smtlib.specs.Theory.{bvneg}
+use Rattle.smtlib.specs.Overflow.{bvnego}
 use Rattle.arena.specs.Values.{Ty, tbool, tbv, topt, tset, trec, Value, bool, bits, vnone, vsome, VFields, fnil, fcons, fieldV, asBits, asRec, getOr}
 use Rattle.factory.specs.Meanings.{means15, means20, means53, means56, isNoneV, anyNoneV, lifted}
 

@@ -6,12 +6,12 @@ use mathlib.Core.Bool.{Bool, true, false, cond, _&&_}
 use mathlib.Core.List.{[], _∷_}
 use lib.Dec.{eqb}
 use borrow.Author.Tests.{eqb-true}
-use Rattle.bitvec.specs.Theory.{bvneg}
-use Rattle.bitvec.specs.Logic.{zeroExtend}
-use Rattle.bitvec.specs.Overflow.{bvnego}
-use Rattle.bitvec.specs.Numbered.{bvappOf, bvcmpOf, bvsoOf}
-use Rattle.bitvec.proofs.Below.{bvneg-lt, bvapp-lt}
-use Rattle.bitvec.proofs.Negation.{neg-neg}
+use Rattle.smtlib.specs.Theory.{bvneg}
+use Rattle.smtlib.specs.Logic.{zeroExtend}
+use Rattle.smtlib.specs.Overflow.{bvnego}
+use Rattle.smtlib.specs.Numbered.{bvappOf, bvcmpOf, bvsoOf}
+use Rattle.smtlib.proofs.Below.{bvneg-lt, bvapp-lt}
+use Rattle.smtlib.proofs.Negation.{neg-neg}
 use Rattle.arena.specs.Nodes.{Node, node, Nodes, kindAt, typeAt, parAt, argAt, widthAt, positions, put, Out, out}
 use Rattle.arena.specs.Values.{Ty, tbool, tbv, Value, bool, bits, asBits}
 use Rattle.arena.specs.Meaning.{tyOf, tyAt, width, Interp, Good, bvMeans, term, meanNode, meaning}

@@ -7,7 +7,7 @@ use mathlib.Core.Bool.{Bool, true, _&&_}
 use mathlib.Core.Logic.{inl}
 use lib.Dec.{eqb}
 use borrow.Author.Tests.{eqb-true, leb-true}
-use Rattle.bitvec.specs.Theory.{IsWidth, IsBv, AreBv}
+use Rattle.smtlib.specs.Theory.{IsWidth, IsBv, AreBv}
 use Rattle.arena.specs.Nodes.{node, Nodes, kindAt, typeAt, parAt, argAt, elemAt, widthAt, put, Out}
 use Rattle.arena.specs.WellFormed.{isType, isTerm}
 use Rattle.arena.specs.Values.{Ty, tbool, topt, tset}

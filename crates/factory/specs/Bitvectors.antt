@@ -3,10 +3,10 @@ use Prim.Native.Nat.{ℕ, _+_}
 use mathlib.Core.Bool.{Bool, cond, _&&_}
 use mathlib.Core.List.{List, [], _∷_}
 use lib.Dec.{eqb}
-use Rattle.bitvec.specs.Theory.{bvneg}
-use Rattle.bitvec.specs.Logic.{zeroExtend}
-use Rattle.bitvec.specs.Overflow.{bvnego}
-use Rattle.bitvec.specs.Numbered.{bvappOf, bvcmpOf, bvsoOf}
+use Rattle.smtlib.specs.Theory.{bvneg}
+use Rattle.smtlib.specs.Logic.{zeroExtend}
+use Rattle.smtlib.specs.Overflow.{bvnego}
+use Rattle.smtlib.specs.Numbered.{bvappOf, bvcmpOf, bvsoOf}
 use Rattle.arena.specs.Nodes.{node, Nodes, kindAt, typeAt, parAt, argAt, widthAt, put, Out, out, _⨟_}
 use Rattle.factory.specs.Makers.{boolAt, bitvecType, bitvecLit, app}
 

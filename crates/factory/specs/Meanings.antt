@@ -4,10 +4,10 @@ use Prim.Native.Nat.{ℕ}
 use mathlib.Core.Bool.{Bool, true, false, not, cond, _&&_, _||_}
 use mathlib.Core.List.{List, [], _∷_, map}
 use lib.Dec.{eqb, ltb}
-use Rattle.bitvec.specs.Theory.{bvneg}
-use Rattle.bitvec.specs.Logic.{zeroExtend}
-use Rattle.bitvec.specs.Overflow.{bvnego}
-use Rattle.bitvec.specs.Numbered.{bvappOf, bvcmpOf, bvsoOf}
+use Rattle.smtlib.specs.Theory.{bvneg}
+use Rattle.smtlib.specs.Logic.{zeroExtend}
+use Rattle.smtlib.specs.Overflow.{bvnego}
+use Rattle.smtlib.specs.Numbered.{bvappOf, bvcmpOf, bvsoOf}
 use Rattle.arena.specs.Lists.{evens, odds, fieldsOf}
 use Rattle.arena.specs.Values.{Ty, tbool, tbv, topt, tset, trec, Value, bool, bits, vnone, vsome, vset, vrec, Values, vnil, vcons, VFields, fnil, fcons, caseV, eqV, setV, memV, subsetV, interV, fieldV, asBool, asBits, asSet, asRec, getOr}
 use Rattle.arena.specs.Meaning.{recTy, Interp, noneGet}

@@ -77,7 +77,7 @@ pub fn bvapp(cells: &mut [u64], cursor: Cursor, op: u64, t: TermPos, u: TermPos)
         let width = width_of(cells, cursor, t);
         let lhs = par_of(cells, cursor.mark, t.0);
         let rhs = par_of(cells, cursor.mark, u.0);
-        return bitvec_lit(cells, cursor, ty, bitvec::bvapp(op, width, lhs, rhs));
+        return bitvec_lit(cells, cursor, ty, bitvec_closures::bvapp(op, width, lhs, rhs));
     }
     app2(cells, cursor, op, ty, t, u)
 }
@@ -92,7 +92,7 @@ pub fn bvcmp(cells: &mut [u64], cursor: Cursor, op: u64, t: TermPos, u: TermPos)
         let width = width_of(cells, cursor, t);
         let lhs = par_of(cells, cursor.mark, t.0);
         let rhs = par_of(cells, cursor.mark, u.0);
-        return TermStep::At(cursor, bool_at(bitvec::bvcmp(op, width, lhs, rhs)));
+        return TermStep::At(cursor, bool_at(bitvec_closures::bvcmp(op, width, lhs, rhs)));
     }
     app2(cells, cursor, op, BOOL, t, u)
 }
@@ -104,7 +104,7 @@ pub fn bvnego(cells: &mut [u64], cursor: Cursor, t: TermPos) -> TermStep
     if kind_of(cells, cursor.mark, t.0) == 17 {
         let width = width_of(cells, cursor, t);
         let v = par_of(cells, cursor.mark, t.0);
-        return TermStep::At(cursor, bool_at(bitvec::nego(width, v)));
+        return TermStep::At(cursor, bool_at(bitvec_closures::nego(width, v)));
     }
     app1(cells, cursor, 45, BOOL, t)
 }
@@ -119,7 +119,7 @@ pub fn bvso(cells: &mut [u64], cursor: Cursor, op: u64, t: TermPos, u: TermPos) 
         let width = width_of(cells, cursor, t);
         let lhs = par_of(cells, cursor.mark, t.0);
         let rhs = par_of(cells, cursor.mark, u.0);
-        return TermStep::At(cursor, bool_at(bitvec::bvso(op, width, lhs, rhs)));
+        return TermStep::At(cursor, bool_at(bitvec_closures::bvso(op, width, lhs, rhs)));
     }
     app2(cells, cursor, op, BOOL, t, u)
 }

@@ -5,10 +5,10 @@ use mathlib.Core.Bool.{Bool, true, false, _&&_}
 use mathlib.Core.List.{List, [], _∷_}
 use lib.Dec.{eqb}
 use lib.ListN.{length}
-use Rattle.bitvec.specs.Theory.{nat2bv, extract, concat, allOnes, bvnot, bvneg, bvadd, bvmul, bvudiv, bvurem, bvshl, bvlshr, bvult}
-use Rattle.bitvec.specs.Logic.{top, byTops, bvsub, bvsdiv, bvsrem, bvabs, bvsmodOf, bvsmod, bvule, byTop, bvslt, bvsle, zeroExtend}
-use Rattle.bitvec.specs.Overflow.{bv2int, outside, bvnego, bvsaddo, bvssubo, bvsmulo}
-use Rattle.bitvec.specs.Numbered.{bvappOf, bvcmpOf, bvsoOf}
+use Rattle.smtlib.specs.Theory.{nat2bv, extract, concat, allOnes, bvnot, bvneg, bvadd, bvmul, bvudiv, bvurem, bvshl, bvlshr, bvult}
+use Rattle.smtlib.specs.Logic.{top, byTops, bvsub, bvsdiv, bvsrem, bvabs, bvsmodOf, bvsmod, bvule, byTop, bvslt, bvsle, zeroExtend}
+use Rattle.smtlib.specs.Overflow.{bv2int, outside, bvnego, bvsaddo, bvssubo, bvsmulo}
+use Rattle.smtlib.specs.Numbered.{bvappOf, bvcmpOf, bvsoOf}
 use Rattle.arena.specs.Lists.{every, all, any, sameList, evens, odds, field, fieldD, holdsField, rising, insert, sorted, common, putField, fieldsOf}
 use Rattle.arena.specs.Nodes.{Node, node, Nodes, fresh, mark, over, nodeAt, positions, keys, fieldTypes, same, find, putFound, put}
 use Rattle.arena.specs.Cells.{cells, parseOn, parse, used, nodeHere}

@@ -5,10 +5,10 @@ use mathlib.Core.Bool.{Bool, true, false}
 use native.Mathlib.Omega.{arith}
 use borrow.Author.Tests.{eq-eqb, ne-eqb, le-leb, lt-leb}
 use mir.Val.{boolByte}
-use Rattle.bitvec.specs.Theory.{bvneg}
-use Rattle.bitvec.specs.Logic.{zeroExtend}
-use Rattle.bitvec.specs.Overflow.{bvnego}
-use Rattle.bitvec.specs.Numbered.{bvappOf, bvcmpOf, bvsoOf}
+use Rattle.smtlib.specs.Theory.{bvneg}
+use Rattle.smtlib.specs.Logic.{zeroExtend}
+use Rattle.smtlib.specs.Overflow.{bvnego}
+use Rattle.smtlib.specs.Numbered.{bvappOf, bvcmpOf, bvsoOf}
 use Rattle.vectors.specs.Answers.{bit, plainOf, answerOf}
 
 -- a test that came out false was not true

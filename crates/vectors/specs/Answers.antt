@@ -3,10 +3,10 @@ use Prim.Native.Nat.{ℕ, _+_, _<_, _≤_, _^_}
 use mathlib.Core.Path.{_≡_}
 use mathlib.Core.Bool.{Bool, cond}
 use lib.Dec.{eqb, leb}
-use Rattle.bitvec.specs.Theory.{IsWidth, bvneg}
-use Rattle.bitvec.specs.Logic.{zeroExtend}
-use Rattle.bitvec.specs.Overflow.{bvnego}
-use Rattle.bitvec.specs.Numbered.{bvappOf, bvcmpOf, bvsoOf}
+use Rattle.smtlib.specs.Theory.{IsWidth, bvneg}
+use Rattle.smtlib.specs.Logic.{zeroExtend}
+use Rattle.smtlib.specs.Overflow.{bvnego}
+use Rattle.smtlib.specs.Numbered.{bvappOf, bvcmpOf, bvsoOf}
 
 -- a predicate's answer as a number
 abbrev pub bit : Bool → ℕ

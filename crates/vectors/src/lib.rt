@@ -4,8 +4,8 @@ use bitvec::Width;
 ghost use mathlib.Core.Path.{_≡_};
 ghost use mathlib.Core.Bool.{true};
 ghost use Prim.Native.Nat.{_+_, _<_, _≤_, _^_};
-ghost use Rattle.bitvec.specs.Theory.{IsWidth, IsBv, AreBv};
-ghost use Rattle.bitvec.specs.Logic.{zeroExtend};
+ghost use Rattle.smtlib.specs.Theory.{IsWidth, IsBv, AreBv};
+ghost use Rattle.smtlib.specs.Logic.{zeroExtend};
 ghost use Rattle.vectors.specs.Answers.{plainOf, Right};
 
 // A line of a list: an operation at a width, its operands, and the answer that another gave.
@@ -162,15 +162,15 @@ fn answer(operation: u64, width: Width, first: u64, second: u64) -> u64
         return bitvec::neg(width, first);
     }
     if operation <= 40 {
-        return bitvec::bvapp(operation, width, first, second);
+        return bitvec_closures::bvapp(operation, width, first, second);
     }
     if operation <= 44 {
-        return bitvec::bvcmp(operation, width, first, second) as u64;
+        return bitvec_closures::bvcmp(operation, width, first, second) as u64;
     }
     if operation == 45 {
-        return bitvec::nego(width, first) as u64;
+        return bitvec_closures::nego(width, first) as u64;
     }
-    bitvec::bvso(operation, width, first, second) as u64
+    bitvec_closures::bvso(operation, width, first, second) as u64
 }
 
 // Whether zero_extend by n is in range, and has our answer.

@@ -1,7 +1,7 @@
 -- `bitvec::abs` meets its contract. Assumes nothing.
 use borrow.Author.Needs.{needs}
 use mathlib.Core.Path.{sym, _∙_}
-use Rattle.bitvec.proofs.Absolute.{abs-high, abs-low}
+use Rattle.smtlib.proofs.Absolute.{abs-high, abs-low}
 use Rattle.bitvec.proofs.abs.Statement.{statement}
 use Rattle.bitvec.proofs.abs.Tie as tie
 

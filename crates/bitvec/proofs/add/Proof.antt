@@ -2,8 +2,8 @@
 use borrow.Author.Needs.{needs}
 use mathlib.Core.Path.{ap, _∙_}
 use Prim.Native.Nat.{_+_}
-use Rattle.bitvec.specs.Theory.{nat2bv, bvadd}
-use Rattle.bitvec.proofs.Word.{mod-mod-le}
+use Rattle.smtlib.specs.Theory.{nat2bv, bvadd}
+use Rattle.smtlib.proofs.Word.{mod-mod-le}
 use Rattle.bitvec.proofs.add.Statement.{statement}
 use Rattle.bitvec.proofs.add.Tie as tie
 

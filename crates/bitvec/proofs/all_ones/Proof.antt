@@ -3,8 +3,8 @@ use borrow.Author.Needs.{needs}
 use mathlib.Core.Path.{_≡_, subst}
 use Prim.Native.Nat.{ℕ, _-_, _/_, _^_}
 use native.Mathlib.Nat.{add-sub-of-le}
-use Rattle.bitvec.specs.Theory.{allOnes}
-use Rattle.bitvec.proofs.Word.{ones-shr}
+use Rattle.smtlib.specs.Theory.{allOnes}
+use Rattle.smtlib.proofs.Word.{ones-shr}
 use Rattle.bitvec.proofs.all_ones.Statement.{statement}
 use Rattle.bitvec.proofs.all_ones.Tie as tie
 

@@ -1,9 +1,9 @@
 -- `bitvec::by_sign` meets its contract. Assumes nothing.
 use borrow.Author.Needs.{needs}
 use mathlib.Core.Path.{sym, _∙_}
-use Rattle.bitvec.proofs.Tops.{top-lt}
-use Rattle.bitvec.specs.Logic.{top}
-use Rattle.bitvec.proofs.Absolute.{order, same-tops}
+use Rattle.smtlib.proofs.Tops.{top-lt}
+use Rattle.smtlib.specs.Logic.{top}
+use Rattle.smtlib.proofs.Absolute.{order, same-tops}
 use Rattle.bitvec.proofs.by_sign.Statement.{statement}
 use Rattle.bitvec.proofs.by_sign.Tie as tie
 

@@ -1,7 +1,7 @@
 -- `bitvec::int_min` meets its contract. Assumes nothing.
 use borrow.Author.Needs.{needs}
 use native.Mathlib.Nat.{mod-eq-of-lt}
-use Rattle.bitvec.proofs.Whole.{half-fits}
+use Rattle.smtlib.proofs.Word.{half-fits}
 use Rattle.bitvec.proofs.int_min.Statement.{statement}
 use Rattle.bitvec.proofs.int_min.Tie as tie
 

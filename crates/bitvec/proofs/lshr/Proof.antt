@@ -1,7 +1,7 @@
 -- `bitvec::lshr` meets its contract. Assumes nothing.
 use borrow.Author.Needs.{needs}
 use mathlib.Core.Path.{sym}
-use Rattle.bitvec.proofs.Division.{lshr-in, lshr-out}
+use Rattle.smtlib.proofs.Division.{lshr-in, lshr-out}
 use Rattle.bitvec.proofs.lshr.Statement.{statement}
 use Rattle.bitvec.proofs.lshr.Tie as tie
 

@@ -3,7 +3,7 @@ use borrow.Author.Needs.{needs}
 use mathlib.Core.Path.{sym, ap}
 use Prim.Native.Nat.{ℕ}
 use lib.Dec.{eqb}
-use Rattle.bitvec.proofs.Tops.{top-div}
+use Rattle.smtlib.proofs.Tops.{top-div}
 use Rattle.bitvec.proofs.msb.Statement.{statement}
 use Rattle.bitvec.proofs.msb.Tie as tie
 

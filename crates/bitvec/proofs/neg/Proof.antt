@@ -1,6 +1,6 @@
 -- `bitvec::neg` meets its contract. Assumes nothing.
 use borrow.Author.Needs.{needs}
-use Rattle.bitvec.proofs.Negation.{neg-not}
+use Rattle.smtlib.proofs.Negation.{neg-not}
 use Rattle.bitvec.proofs.neg.Statement.{statement}
 use Rattle.bitvec.proofs.neg.Tie as tie
 

@@ -2,7 +2,7 @@
 use borrow.Author.Needs.{needs}
 use mathlib.Core.Path.{ap}
 use lib.Bits.{bitXor}
-use Rattle.bitvec.specs.Theory.{bvnot}
+use Rattle.smtlib.specs.Theory.{bvnot}
 use Rattle.bitvec.proofs.not.Statement.{statement}
 use Rattle.bitvec.proofs.not.Tie as tie
 

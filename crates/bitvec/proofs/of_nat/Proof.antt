@@ -2,7 +2,7 @@
 use borrow.Author.Needs.{needs}
 use mathlib.Core.Path.{ap, _∙_}
 use lib.Bits.{bitAnd, and-mask}
-use Rattle.bitvec.specs.Theory.{nat2bv, allOnes}
+use Rattle.smtlib.specs.Theory.{nat2bv, allOnes}
 use Rattle.bitvec.proofs.of_nat.Statement.{statement}
 use Rattle.bitvec.proofs.of_nat.Tie as tie
 

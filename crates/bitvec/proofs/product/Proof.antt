@@ -6,7 +6,7 @@ use lib.Pow.{shr-lt, split}
 use lib.Bits.{bitAnd, and-mask, mask-lt}
 use mir.Val.{Fits}
 use mir.Syntax.{w64}
-use Rattle.bitvec.proofs.Columns.{digits, columns}
+use Rattle.smtlib.proofs.Columns.{digits, columns}
 use Rattle.bitvec.proofs.product.Statement.{statement}
 use Rattle.bitvec.proofs.product.Tie as tie
 

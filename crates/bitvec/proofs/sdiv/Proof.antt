@@ -1,9 +1,9 @@
 -- `bitvec::sdiv` meets its contract. Assumes nothing.
 use borrow.Author.Needs.{needs}
 use mathlib.Core.Path.{ap, ap₂, sym, _∙_}
-use Rattle.bitvec.specs.Theory.{bvneg, bvudiv}
-use Rattle.bitvec.proofs.Below.{bvabs-lt, bvudiv-lt}
-use Rattle.bitvec.proofs.Absolute.{sdiv-abs, same-tops}
+use Rattle.smtlib.specs.Theory.{bvneg, bvudiv}
+use Rattle.smtlib.proofs.Below.{bvabs-lt, bvudiv-lt}
+use Rattle.smtlib.proofs.Absolute.{sdiv-abs, same-tops}
 use Rattle.bitvec.proofs.sdiv.Statement.{statement}
 use Rattle.bitvec.proofs.sdiv.Tie as tie
 

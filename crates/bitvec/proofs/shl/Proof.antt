@@ -2,8 +2,8 @@
 use borrow.Author.Needs.{needs}
 use mathlib.Core.Path.{sym, _∙_}
 use Prim.Native.Nat.{_*_, _^_}
-use Rattle.bitvec.specs.Theory.{nat2bv, bvshl}
-use Rattle.bitvec.proofs.Word.{mod-mod-le, shl-out}
+use Rattle.smtlib.specs.Theory.{nat2bv, bvshl}
+use Rattle.smtlib.proofs.Word.{mod-mod-le, shl-out}
 use Rattle.bitvec.proofs.shl.Statement.{statement}
 use Rattle.bitvec.proofs.shl.Tie as tie
 

@@ -1,7 +1,7 @@
 -- `bitvec::sle` meets its contract. Assumes nothing.
 use borrow.Author.Needs.{needs}
 use mathlib.Core.Path.{ap, _∙_}
-use Rattle.bitvec.specs.Logic.{top, byTop, bvsle}
+use Rattle.smtlib.specs.Logic.{top, byTop, bvsle}
 use Rattle.bitvec.proofs.sle.Statement.{statement}
 use Rattle.bitvec.proofs.sle.Tie as tie
 

@@ -1,7 +1,7 @@
 -- `bitvec::slt` meets its contract. Assumes nothing.
 use borrow.Author.Needs.{needs}
 use mathlib.Core.Path.{ap, _∙_}
-use Rattle.bitvec.specs.Logic.{top, byTop, bvslt}
+use Rattle.smtlib.specs.Logic.{top, byTop, bvslt}
 use Rattle.bitvec.proofs.slt.Statement.{statement}
 use Rattle.bitvec.proofs.slt.Tie as tie
 

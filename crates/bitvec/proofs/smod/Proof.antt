@@ -3,8 +3,8 @@ use borrow.Author.Needs.{needs}
 use mathlib.Core.Path.{ap, sym, _∙_}
 use borrow.Author.Tests.{eq-eqb, ne-eqb}
 use Prim.Native.Nat.{ℕ}
-use Rattle.bitvec.specs.Theory.{bvadd}
-use Rattle.bitvec.proofs.Absolute.{smod-rem, same-tops}
+use Rattle.smtlib.specs.Theory.{bvadd}
+use Rattle.smtlib.proofs.Absolute.{smod-rem, same-tops}
 use Rattle.bitvec.proofs.smod.Statement.{statement}
 use Rattle.bitvec.proofs.smod.Tie as tie
 

@@ -1,9 +1,9 @@
 -- `bitvec::srem` meets its contract. Assumes nothing.
 use borrow.Author.Needs.{needs}
 use mathlib.Core.Path.{ap, ap₂, sym, _∙_}
-use Rattle.bitvec.specs.Theory.{bvneg, bvurem}
-use Rattle.bitvec.proofs.Below.{bvabs-lt, bvurem-lt}
-use Rattle.bitvec.proofs.Absolute.{srem-abs}
+use Rattle.smtlib.specs.Theory.{bvneg, bvurem}
+use Rattle.smtlib.proofs.Below.{bvabs-lt, bvurem-lt}
+use Rattle.smtlib.proofs.Absolute.{srem-abs}
 use Rattle.bitvec.proofs.srem.Statement.{statement}
 use Rattle.bitvec.proofs.srem.Tie as tie
 

@@ -1,8 +1,8 @@
 -- `bitvec::sub` meets its contract. Assumes nothing.
 use borrow.Author.Needs.{needs}
 use mathlib.Core.Path.{ap, _∙_}
-use Rattle.bitvec.specs.Theory.{bvadd}
-use Rattle.bitvec.specs.Logic.{bvsub}
+use Rattle.smtlib.specs.Theory.{bvadd}
+use Rattle.smtlib.specs.Logic.{bvsub}
 use Rattle.bitvec.proofs.sub.Statement.{statement}
 use Rattle.bitvec.proofs.sub.Tie as tie
 

@@ -1,7 +1,7 @@
 -- `bitvec::udiv` meets its contract. Assumes nothing.
 use borrow.Author.Needs.{needs}
 use mathlib.Core.Path.{sym, _∙_}
-use Rattle.bitvec.proofs.Division.{udiv-zero, udiv-some}
+use Rattle.smtlib.proofs.Division.{udiv-zero, udiv-some}
 use Rattle.bitvec.proofs.udiv.Statement.{statement}
 use Rattle.bitvec.proofs.udiv.Tie as tie
 

@@ -1,6 +1,6 @@
 -- `bitvec::ule` meets its contract. Assumes nothing.
 use mathlib.Core.Path.{sym}
-use Rattle.bitvec.proofs.Orders.{ule-le}
+use Rattle.smtlib.proofs.Orders.{ule-le}
 use Rattle.bitvec.proofs.ule.Statement.{statement}
 use Rattle.bitvec.proofs.ule.Tie as tie
 

@@ -1,6 +1,6 @@
 -- `bitvec::ult` meets its contract. Assumes nothing.
 use mathlib.Core.Path.{refl}
-use Rattle.bitvec.specs.Theory.{bvult}
+use Rattle.smtlib.specs.Theory.{bvult}
 use Rattle.bitvec.proofs.ult.Statement.{statement}
 use Rattle.bitvec.proofs.ult.Tie as tie
 

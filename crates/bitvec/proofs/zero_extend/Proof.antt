@@ -1,7 +1,7 @@
 -- `bitvec::zero_extend` meets its contract. Assumes nothing.
 use borrow.Author.Needs.{needs}
 use mathlib.Core.Path.{sym, _∙_}
-use Rattle.bitvec.proofs.Division.{extended}
+use Rattle.smtlib.proofs.Division.{extended}
 use Rattle.bitvec.proofs.zero_extend.Statement.{statement}
 use Rattle.bitvec.proofs.zero_extend.Tie as tie
 

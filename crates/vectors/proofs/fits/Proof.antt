@@ -5,7 +5,7 @@ use mathlib.Core.Path.{sym, _∙_, subst}
 use Prim.Native.Nat.{ℕ, _<_, _^_}
 use native.Mathlib.Nat.{mod-lt}
 use lib.Pow.{pow-pos}
-use Rattle.bitvec.specs.Theory.{nat2bv}
+use Rattle.smtlib.specs.Theory.{nat2bv}
 use Rattle.vectors.proofs.fits.Statement.{statement}
 use Rattle.vectors.proofs.fits.Tie as tie
 

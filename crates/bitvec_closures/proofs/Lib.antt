@@ -1,0 +1,2 @@
+-- Laws of whole numbers by sign and magnitude.
+pub mod Whole

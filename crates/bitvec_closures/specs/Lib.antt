@@ -1,0 +1,2 @@
+-- Whole numbers as the code has them.
+pub mod Int
