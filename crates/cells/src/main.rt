@@ -80,13 +80,13 @@ fn resolved(results: &[u64], instruction: Instruction) -> Instruction
 
 fn say_ok(position: u64, mark: u64) {
     let mut line = [0u8; 45];
-    let end = codec::write_ok(&mut line, 0, position, mark);
+    let end = answer_lines::write_ok(&mut line, 0, position, mark);
     io::write_all(STDOUT_FILENO, part(&line, 0, end));
 }
 
 fn say_refused(number: u64) {
     let mut line = [0u8; 29];
-    let end = codec::write_refused(&mut line, 0, number);
+    let end = answer_lines::write_refused(&mut line, 0, number);
     io::write_all(STDOUT_FILENO, part(&line, 0, end));
 }
 
@@ -120,7 +120,7 @@ fn say_cells(cells: &[u64], mark: usize) {
         }
         let at = flushed(&text, end);
         text[at] = b' ';
-        end = codec::write_decimal(&mut text, at + 1, cells[i]);
+        end = answer_lines::write_decimal(&mut text, at + 1, cells[i]);
         i += 1;
     }
     io::write_all(STDOUT_FILENO, part(&text, 0, end));

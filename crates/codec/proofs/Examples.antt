@@ -1,4 +1,4 @@
--- Document 01's script and lines, and numbers at the edges, computed from the definitions: one table, one statement.
+-- Document 01's script, and numbers at the edges, computed from the definitions: one table, one statement.
 use mathlib.Core.Path.{_≡_, refl}
 use mathlib.Core.Bool.{Bool, true, false, _&&_}
 use mathlib.Core.List.{List, [], _∷_, _++_}
@@ -9,7 +9,6 @@ use Rattle.codec.specs.declared.Number.the-variants.{Read, Bad}
 use Rattle.codec.specs.Digits.{digitsIn, digits}
 use Rattle.codec.specs.Numbers.{marked, groups, value, run, same, numberOf, numberAt}
 use Rattle.codec.specs.Instructions.{Reading, whole, bad, onto, first, numbersAt, after, operands, instructionAt}
-use Rattle.codec.specs.Lines.{text, decimal, field, okLine, refusedLine}
 
 abbrev every : List Bool → Bool
 every [] = true
@@ -81,14 +80,8 @@ examples =
     ∷ isBad (nine ++ (129 ∷ 0 ∷ []))
     ∷ isBad (nine ++ (129 ∷ 1 ∷ []))
     ∷ same (groups (2 ^ 64 - 1)) (nine ++ (1 ∷ []))
-    -- 'ok 12 16', 'refused 5', 'refused 10', and the longest number
-    ∷ same (okLine 12 16) (111 ∷ 107 ∷ 32 ∷ 49 ∷ 50 ∷ 32 ∷ 49 ∷ 54 ∷ 10 ∷ [])
-    ∷ same (refusedLine 5) (114 ∷ 101 ∷ 102 ∷ 117 ∷ 115 ∷ 101 ∷ 100 ∷ 32 ∷ 53 ∷ 10 ∷ [])
-    ∷ same (refusedLine 10) (114 ∷ 101 ∷ 102 ∷ 117 ∷ 115 ∷ 101 ∷ 100 ∷ 32 ∷ 49 ∷ 48 ∷ 10 ∷ [])
-    ∷ same (decimal 0) (48 ∷ [])
-    ∷ same (decimal (2 ^ 64 - 1)) (49 ∷ 56 ∷ 52 ∷ 52 ∷ 54 ∷ 55 ∷ 52 ∷ 52 ∷ 48 ∷ 55 ∷ 51 ∷ 55 ∷ 48 ∷ 57 ∷ 53 ∷ 53 ∷ 49 ∷ 54 ∷ 49 ∷ 53 ∷ [])
     ∷ []
 
 examples-hold : every examples ≡ true
-unfolding examples is isBad reads readsNone script nine digitsIn digits marked groups value run same numberOf numberAt onto first numbersAt after operands instructionAt text decimal field okLine refusedLine
+unfolding examples is isBad reads readsNone script nine digitsIn digits marked groups value run same numberOf numberAt onto first numbersAt after operands instructionAt
 examples-hold = refl

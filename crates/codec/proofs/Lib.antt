@@ -1,4 +1,4 @@
--- Laws of the encoding and of lines, in the order in which they lean on each other.
+-- Laws of the encoding, in the order in which they lean on each other.
 pub mod Choices
 pub mod Digits
 pub mod Groups
@@ -10,5 +10,4 @@ pub mod Listed
 pub mod Handed
 pub mod Putting
 pub mod Turns
-pub mod Answers
 pub mod Examples

@@ -1,6 +1,5 @@
--- The bytes of a script and of its answers.
+-- The bytes of a script.
 pub mod Digits
 pub mod Numbers
 pub mod Instructions
 pub mod Writing
-pub mod Lines

@@ -1,4 +1,4 @@
-// The bytes of a script and of its answers: numbers in groups of seven bits, instructions, and lines of decimal numbers.
+// The bytes of a script: numbers in groups of seven bits, and instructions.
 use instruction::Instruction;
 ghost use mathlib.Core.Path.{_≡_};
 ghost use mathlib.Core.Bool.{_&&_};
@@ -9,7 +9,6 @@ ghost use Rattle.codec.specs.Digits.{digits};
 ghost use Rattle.codec.specs.Numbers.{groups, numberAt};
 ghost use Rattle.codec.specs.Instructions.{broken, numbersAt, operandsOf, bad, instructionAt, decodedOf};
 ghost use Rattle.codec.specs.Writing.{Puts, writtenOf, withNumber};
-ghost use Rattle.codec.specs.Lines.{decimal, field, okLine, refusedLine};
 
 // What stands at a place: a number and the place behind it, or none.
 pub enum Number {
@@ -161,7 +160,7 @@ pub enum Written {
 }
 
 // How many digits a number has in a base.
-fn digit_count(n: u64, base: u64) -> usize
+pub fn digit_count(n: u64, base: u64) -> usize
     requires { ⌜ 1 < base ⌝ }
     ensures { λ r. ⌜ r ≡ length (digits base n) ⌝ }
 {
@@ -209,62 +208,4 @@ pub fn write_number(out: &mut [u8], at: usize, n: u64) -> Written
         return Written::NoRoom;
     }
     Written::Behind(put_groups(out, at, n))
-}
-
-// Bytes at a place.
-fn write_bytes(out: &mut [u8], at: usize, bytes: &[u8]) -> usize
-    requires { ⌜ at + length (now bytes) ≤ length (now out) ⌝ }
-    ensures { λ r. ⌜ Puts (now (out .entry)) at (now (bytes .entry)) r (now (out .exit)) ⌝ }
-{
-    let mut i: usize = 0;
-    while i < bytes.len() {
-        out[at + i] = bytes[i];
-        i += 1;
-    }
-    at + i
-}
-
-// A number in decimal, at most 20 digits, from the last digit to the first.
-pub fn write_decimal(out: &mut [u8], at: usize, n: u64) -> usize
-    requires { ⌜ at + 20 ≤ length (now out) ⌝ }
-    ensures { λ r. ⌜ Puts (now (out .entry)) at (decimal n) r (now (out .exit)) ⌝ }
-{
-    let end = at + digit_count(n, 10);
-    let mut last = end - 1;
-    let mut rest = n;
-    while rest >= 10 {
-        out[last] = (48 + rest % 10) as u8;
-        last -= 1;
-        rest = rest / 10;
-    }
-    out[last] = (48 + rest) as u8;
-    end
-}
-
-// A fixed byte string, and a number behind it.
-fn write_field(out: &mut [u8], at: usize, bytes: &[u8], n: u64) -> usize
-    requires { ⌜ at + length (now bytes) + 20 ≤ length (now out) ⌝ }
-    ensures { λ r. ⌜ Puts (now (out .entry)) at (field (now (bytes .entry)) n) r (now (out .exit)) ⌝ }
-{
-    let behind = write_bytes(out, at, bytes);
-    write_decimal(out, behind, n)
-}
-
-// The line of an accepted instruction: its position and the mark.
-pub fn write_ok(out: &mut [u8], at: usize, position: u64, mark: u64) -> usize
-    requires { ⌜ at + 45 ≤ length (now out) ⌝ }
-    ensures { λ r. ⌜ Puts (now (out .entry)) at (okLine position mark) r (now (out .exit)) ⌝ }
-{
-    let a = write_field(out, at, b"ok ", position);
-    let b = write_field(out, a, b" ", mark);
-    write_bytes(out, b, b"\n")
-}
-
-// The line of a refused one.
-pub fn write_refused(out: &mut [u8], at: usize, number: u64) -> usize
-    requires { ⌜ at + 29 ≤ length (now out) ⌝ }
-    ensures { λ r. ⌜ Puts (now (out .entry)) at (refusedLine number) r (now (out .exit)) ⌝ }
-{
-    let a = write_field(out, at, b"refused ", number);
-    write_bytes(out, a, b"\n")
 }

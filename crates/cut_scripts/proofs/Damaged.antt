@@ -22,7 +22,7 @@ use Rattle.table.specs.Table.{table, rowOf, known, row}
 use Rattle.codec.specs.Digits.{digitsIn, digits}
 use Rattle.codec.specs.Numbers.{marked, groups, value, run as groupsRun, same as sameBytes, numberOf, numberAt}
 use Rattle.codec.specs.Instructions.{onto as numberOnto, first, numbersAt, after, operands, instructionAt}
-use Rattle.codec.specs.Lines.{text, decimal, field as lineField, okLine, refusedLine}
+use Rattle.answer_lines.specs.Lines.{text, decimal, field as lineField, okLine, refusedLine}
 use Rattle.table.specs.Call.{Reply, ok, refused, countOk, tooMany, sortOk, sortsOk, operandsOk, firstOf, tests, refusal, fitted, call, callOn}
 use Rattle.script.specs.Script.{lineOf, stepOn, steps, answers, cellsAfter}
 use Rattle.script.proofs.Examples.{Example, example, lines, holds}

@@ -38,13 +38,13 @@ fn part(s: &[u8], from: usize, to: usize) -> &[u8] {
 
 fn say_ok(position: u64, mark: u64) {
     let mut line = [0u8; 45];
-    let end = codec::write_ok(&mut line, 0, position, mark);
+    let end = answer_lines::write_ok(&mut line, 0, position, mark);
     io::write_all(STDOUT_FILENO, part(&line, 0, end));
 }
 
 fn say_refused(number: u64) {
     let mut line = [0u8; 29];
-    let end = codec::write_refused(&mut line, 0, number);
+    let end = answer_lines::write_refused(&mut line, 0, number);
     io::write_all(STDOUT_FILENO, part(&line, 0, end));
 }
 
@@ -58,7 +58,7 @@ fn say_answer(answer: Answer) {
 // A blank, and a number.
 fn say_number(n: u64) {
     let mut text = [0u8; 20];
-    let end = codec::write_decimal(&mut text, 0, n);
+    let end = answer_lines::write_decimal(&mut text, 0, n);
     io::write_all(STDOUT_FILENO, b" ");
     io::write_all(STDOUT_FILENO, part(&text, 0, end));
 }

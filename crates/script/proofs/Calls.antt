@@ -10,7 +10,7 @@ use Rattle.arena.specs.Nodes.{mark, fresh}
 use Rattle.arena.specs.Cells.{padded}
 use Rattle.instruction.specs.Instruction.{Instr}
 use Rattle.codec.specs.Instructions.{Reading, whole, bad, instructionAt, allGroups, numbers, Encodes}
-use Rattle.codec.specs.Lines.{refusedLine}
+use Rattle.answer_lines.specs.Lines.{refusedLine}
 use Rattle.codec.proofs.Choices.{lt-or-le}
 use Rattle.codec.proofs.Listed.{instruction-read, instruction-back}
 use Rattle.table.specs.Call.{callOn}

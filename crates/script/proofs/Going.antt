@@ -14,7 +14,7 @@ use Rattle.arena.proofs.FreshCells.{made-used, made-arena}
 use Rattle.instruction.specs.Instruction.{Instr}
 use Rattle.codec.specs.Instructions.{whole, bad, instructionAt}
 use Rattle.codec.specs.Writing.{put, Puts}
-use Rattle.codec.specs.Lines.{okLine, refusedLine}
+use Rattle.answer_lines.specs.Lines.{okLine, refusedLine}
 use Rattle.codec.proofs.Putting.{length-put, puts-puts}
 use Rattle.table.specs.Call.{Reply, callOn}
 use Rattle.table.specs.Answers.{replyOf, Answered, markAfter}

@@ -8,10 +8,10 @@ use Rattle.instruction.specs.Instruction.{Instr}
 use Rattle.codec.specs.Digits.{digits}
 use Rattle.codec.specs.Numbers.{groups}
 use Rattle.codec.specs.Instructions.{whole, instructionAt, allGroups, numbers}
-use Rattle.codec.specs.Lines.{decimal, field, ok, refused, space, newline, okLine, refusedLine}
+use Rattle.answer_lines.specs.Lines.{decimal, field, ok, refused, space, newline, okLine, refusedLine}
 use Rattle.codec.proofs.Digits.{digits-most}
 use Rattle.codec.proofs.Groups.{groups-some}
-use Rattle.codec.proofs.Turns.{length-decimal}
+use Rattle.answer_lines.proofs.Turns.{length-decimal}
 use Rattle.codec.proofs.Listed.{instruction-read}
 use Rattle.table.specs.Call.{Reply, ok as oks, refused as refuses}
 use Rattle.table.proofs.Kept.{Small}

@@ -9,10 +9,10 @@ use lib.ListN.{length}
 use Rattle.arena.specs.WellFormed.{IsArena}
 use Rattle.instruction.specs.Instruction.{Instr}
 use Rattle.codec.specs.Instructions.{Reading, whole, bad, instructionAt}
-use Rattle.codec.specs.Lines.{refusedLine}
+use Rattle.answer_lines.specs.Lines.{refusedLine}
 use Rattle.codec.proofs.Choices.{cond-else}
 use Rattle.codec.proofs.Listed.{instruction-read}
-use Rattle.codec.proofs.Answers.{refused-most}
+use Rattle.answer_lines.proofs.Answers.{refused-most}
 use Rattle.table.specs.Call.{callOn}
 use Rattle.table.proofs.Kept.{Small, kept, small}
 use Rattle.script.specs.Script.{lent, State, Step, wrote, lineOf, called, stepOn, step, onto, steps, ran}

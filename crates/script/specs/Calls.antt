@@ -5,7 +5,7 @@ use mathlib.Core.List.{List, [], _∷_, _++_}
 use lib.ListN.{length, getD}
 use Rattle.instruction.specs.Instruction.{Instr}
 use Rattle.codec.specs.Instructions.{allGroups, numbers}
-use Rattle.codec.specs.Lines.{refusedLine}
+use Rattle.answer_lines.specs.Lines.{refusedLine}
 use Rattle.table.specs.Call.{callOn}
 use Rattle.table.specs.Answers.{markAfter}
 use Rattle.script.specs.Script.{lineOf}

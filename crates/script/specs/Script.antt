@@ -8,7 +8,7 @@ use Rattle.arena.specs.Nodes.{mark, fresh}
 use Rattle.arena.specs.Cells.{padded}
 use Rattle.instruction.specs.Instruction.{Instr}
 use Rattle.codec.specs.Instructions.{Reading, whole, bad, instructionAt}
-use Rattle.codec.specs.Lines.{okLine, refusedLine}
+use Rattle.answer_lines.specs.Lines.{okLine, refusedLine}
 use Rattle.table.specs.Call.{Reply, ok, refused, callOn}
 use Rattle.table.specs.Answers.{markAfter}
 

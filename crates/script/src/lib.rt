@@ -28,8 +28,8 @@ fn write_answer(out: &mut [u8], end: usize, answer: Answer) -> usize
     ensures { λ r. ⌜ Puts (now (out .entry)) end (lineOf (replyOf answer)) r (now (out .exit)) ⌝ }
 {
     match answer {
-        Answer::Accepted(position, mark) => codec::write_ok(out, end, position, mark as u64),
-        Answer::Refused(number) => codec::write_refused(out, end, number),
+        Answer::Accepted(position, mark) => answer_lines::write_ok(out, end, position, mark as u64),
+        Answer::Refused(number) => answer_lines::write_refused(out, end, number),
     }
 }
 
@@ -53,7 +53,7 @@ fn step(bytes: &[u8], cells: &mut [u64], out: &mut [u8], place: Place) -> Place
         return Place {
             at: bytes.len(),
             mark: place.mark,
-            end: codec::write_refused(out, place.end, 10),
+            end: answer_lines::write_refused(out, place.end, 10),
         };
     }
     let instruction = read.instruction;
@@ -88,7 +88,7 @@ pub fn run(bytes: &[u8], cells: &mut [u64], out: &mut [u8]) -> usize
     ensures { λ r. ⌜ Ran (now (bytes .entry)) (now (cells .entry)) (now (out .entry)) r (now (cells .exit)) (now (out .exit)) ⌝ }
 {
     if bytes.len() > LONGEST {
-        return codec::write_refused(out, 0, 10);
+        return answer_lines::write_refused(out, 0, 10);
     }
     let mark = arena::cells::fresh(cells) as usize;
     walk(bytes, cells, out, mark)

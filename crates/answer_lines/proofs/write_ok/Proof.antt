@@ -1,10 +1,10 @@
--- `codec::write_ok` meets its contract. Assumes nothing.
+-- `answer_lines::write_ok` meets its contract. Assumes nothing.
 use native.Mathlib.Omega.{arith}
-use Rattle.codec.specs.Lines.{ok, space}
-use Rattle.codec.proofs.Answers.{field-most, puts-ok}
+use Rattle.answer_lines.specs.Lines.{ok, space}
+use Rattle.answer_lines.proofs.Answers.{field-most, puts-ok}
 use borrow.Author.Needs.{needs}
-use Rattle.codec.proofs.write_ok.Statement.{statement}
-use Rattle.codec.proofs.write_ok.Tie as tie
+use Rattle.answer_lines.proofs.write_ok.Statement.{statement}
+use Rattle.answer_lines.proofs.write_ok.Tie as tie
 
 slice-aggregate-write-field : tie.Need-slice-aggregate-write-field
 slice-aggregate-write-field c = search needs

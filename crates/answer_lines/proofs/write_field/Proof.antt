@@ -1,8 +1,8 @@
--- `codec::write_field` meets its contract. Assumes nothing.
-use Rattle.codec.proofs.Answers.{puts-field}
+-- `answer_lines::write_field` meets its contract. Assumes nothing.
+use Rattle.answer_lines.proofs.Answers.{puts-field}
 use borrow.Author.Needs.{needs}
-use Rattle.codec.proofs.write_field.Statement.{statement}
-use Rattle.codec.proofs.write_field.Tie as tie
+use Rattle.answer_lines.proofs.write_field.Statement.{statement}
+use Rattle.answer_lines.proofs.write_field.Tie as tie
 
 write-bytes-requires : tie.Need-write-bytes-requires
 write-bytes-requires c κs = search needs

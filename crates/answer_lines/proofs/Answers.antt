@@ -3,10 +3,10 @@ use mathlib.Core.List.{List, _++_}
 use Prim.Native.Nat.{ℕ, _+_, _^_, _≤_, _<_}
 use native.Mathlib.Omega.{arith}
 use lib.ListN.{length, length-append}
 use Rattle.codec.specs.Writing.{Puts}
-use Rattle.codec.specs.Lines.{decimal, field, ok, refused, space, newline, okLine, refusedLine}
-use Rattle.codec.proofs.Turns.{length-decimal, decimal-most}
+use Rattle.answer_lines.specs.Lines.{decimal, field, ok, refused, space, newline, okLine, refusedLine}
+use Rattle.answer_lines.proofs.Turns.{length-decimal, decimal-most}
 use Rattle.codec.proofs.Putting.{puts-puts}
 
 pub field-most : (bytes : List ℕ) (n : ℕ) → n < 2 ^ 64 → length (field bytes n) ≤ length bytes + 20
 unfolding field

@@ -1,0 +1,2 @@
+-- The lines that answer a script.
+pub mod Lines
