@@ -10,7 +10,7 @@ build=$(mktemp -d)
 trap 'rm -rf "$build"' EXIT
 
 known=()
-crates=(bitvec arena nodes walks sorting node_tests node_kinds wellformed factory_makers factory_core factory_bitvectors factory_data factory_helpers compiler
+crates=(bitvec arena nodes walks sorting runs node_tests node_kinds wellformed factory_makers factory_core factory_bitvectors factory_data factory_helpers compiler
     compiled instruction table refusals dispatch call codec script tameswulk)
 for crate in "${crates[@]}"; do
     mkdir "$build/$crate"
