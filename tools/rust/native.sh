@@ -10,8 +10,8 @@ build=$(mktemp -d)
 trap 'rm -rf "$build"' EXIT
 
 known=()
-crates=(bitvec bitvec_closures arena nodes walks sorting node_tests node_kinds wellformed factory_makers factory_core factory_bitvectors factory_data factory_helpers compiler
-    compiled instruction table refusals dispatch call codec answer_lines script tameswulk)
+crates=(bitvec bitvec_closures arena nodes walks sorting runs node_tests node_kinds wellformed factory_makers factory_core factory_bitvectors factory_data factory_helpers
+    compiler compiled instruction table refusals dispatch call codec answer_lines script tameswulk)
 for crate in "${crates[@]}"; do
     mkdir "$build/$crate"
     for file in "crates/$crate"/src/*.rt; do

@@ -13,7 +13,8 @@ use Rattle.arena.specs.WellFormed.{fieldRun, isType, isTerm, kindIs, typeIs, pl
 use Rattle.arena.specs.Cells.{nodeHere}
 use Rattle.arena.proofs.Bools.{every-all, every-on, every-off, every-one}
 use Rattle.arena.proofs.Runs.{all-get}
-use Rattle.node_tests.specs.Decide.{ElemType, held, makerOn, coreOn, bvOn, dataOn}
+use Rattle.runs.specs.Strides.{held}
+use Rattle.node_tests.specs.Decide.{ElemType, makerOn, coreOn, bvOn, dataOn}
 
 module _ (a : Nodes) (k t p : ℕ) where
   module _ (n x y z : ℕ) {tx ty : ℕ} (ex : tx ≡ typeAt a x) (ey : ty ≡ typeAt a y) where

@@ -1,5 +1,4 @@
 -- The laws of the well-formedness test.
-pub mod Turns
 pub mod Stands
 pub mod Arms
 pub mod Steps

@@ -1,10 +1,10 @@
 -- What stands at a position below q.
 use mathlib.Core.Path.{_≡_, refl, sym, ap, _∙_}
-use Prim.Native.Nat.{ℕ, zero, suc, _+_, _-_, _/_, _%_, _≤_, _<_}
+use Prim.Native.Nat.{ℕ, zero, suc, _+_, _-_, _*_, _/_, _%_, _≤_, _<_}
 use native.Mathlib.Omega.{arith}
-use mathlib.Core.List.{List, []}
+use mathlib.Core.List.{List, [], _∷_}
 use lib.ListN.{length, take, drop, getD}
-use Rattle.arena.specs.Nodes.{Node, nowhere, nodeAt, kindAt, memAt}
+use Rattle.arena.specs.Nodes.{Node, Nodes, nowhere, nodeAt, kindAt, memAt, fieldTypes}
 use Rattle.arena.specs.Cells.{cellsOf, used}
 use Rattle.arena.specs.Lent.{Ready}
 use Rattle.arena.proofs.Runs.{mem0}
@@ -61,3 +61,11 @@ module _ {c : List ℕ} {q : ℕ} {f : List ℕ} (R : Ready c q f) (p : ℕ) whe
           let k = read-count (R .below) p stands in
           let d : p + 4 + n - (p + 4) ≡ getD c (p + 3) 0 = omega arith in
           ap (λ (i : ℕ). take i (drop (p + 4) c)) d ∙ read-members (R .below) p stands
+
+-- ---- the types of what fields hold
+
+pub types-length : (a : Nodes) (l : List ℕ) → length (fieldTypes a l) ≡ length l / 2 * 2
+unfolding fieldTypes
+types-length a [] = refl
+types-length a (x ∷ []) = refl
+types-length a (x ∷ y ∷ l) = let h = types-length a l in omega arith

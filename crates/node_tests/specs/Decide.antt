@@ -5,7 +5,7 @@ use mathlib.Core.List.{List, [], _∷_}
 use Prim.Native.Nat.{ℕ, _+_, _*_, _^_, _≤_}
 use lib.ListN.{length, getD}
 use lib.Dec.{eqb, leb, ltb}
-use Rattle.arena.specs.Lists.{every, evens, odds}
+use Rattle.arena.specs.Lists.{every}
 use Rattle.arena.specs.Nodes.{Nodes}
 use Rattle.arena.specs.Cells.{used}
 use Rattle.arena.specs.WellFormed.{fewest, most, small, isType, isTerm, typeIs, clear, Below}
@@ -25,16 +25,6 @@ pub record First (c : List ℕ) (m : ℕ) (f : List ℕ) : Type 0 where
 -- a single member is a type
 abbrev pub ElemType : Nodes → List ℕ → Type 0
 ElemType a r = length r ≡ 1 → isType a (getD r 0 0) ≡ true
-
--- ---- runs of numbers, one by one or in pairs
-
--- what the fields of a run hold, or the whole run
-abbrev pub held : ℕ → List ℕ → List ℕ
-held step r = cond (eqb step 2) (odds r) r
-
--- its attributes, or the whole run
-abbrev pub heads : ℕ → List ℕ → List ℕ
-heads step r = cond (eqb step 2) (evens r) r
 
 -- what is wanted at x
 abbrev pub wanted : Nodes → Want → ℕ → Bool

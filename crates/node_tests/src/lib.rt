@@ -1,7 +1,6 @@
-// Tests of the parts of one node in any cells, as the test of well-formedness wants them: looking at an earlier node, runs of members, and numbers.
+// Tests of the parts of one node in any cells, as the test of well-formedness wants them: looking at an earlier node, and numbers.
 
 pub mod looks;
-pub mod runs;
 pub mod tests;
 
 // What has to stand at a position: a type, a term, a term of the type at the given position.

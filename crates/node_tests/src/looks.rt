@@ -8,10 +8,11 @@ ghost use Rattle.arena.specs.Lists.{all, sameList};
 ghost use Rattle.arena.specs.Nodes.{nodeAt, kindAt, typeAt, parAt, memAt, argAt, fieldTypes};
 ghost use Rattle.arena.specs.Cells.{cellsOf, used};
 ghost use Rattle.arena.specs.Lent.{Ready};
-ghost use Rattle.node_tests.specs.Decide.{wanted, held};
+ghost use Rattle.runs.specs.Strides.{held};
+ghost use Rattle.node_tests.specs.Decide.{wanted};
 use super::Want;
-use super::runs::nth;
 use super::tests::of_type;
+use runs::nth;
 
 // Cell j of the header of the node at p; 0 where none starts.
 pub fn look(cells: &[u64], starts: &[u8], q: usize, p: u64, j: usize) -> u64

@@ -1,33 +1,9 @@
-// Tests of numbers: several at once, and whether a number fits.
+// Tests of numbers: of a kind, a sum, and whether a number fits.
 ghost use mathlib.Core.Path.{_≡_};
-ghost use mathlib.Core.List.{[], _∷_};
 ghost use Prim.Native.Nat.{_+_, _^_};
 ghost use lib.Dec.{eqb, ltb};
-ghost use Rattle.arena.specs.Lists.{every, within};
-
-pub fn all2(a: bool, b: bool) -> bool
-    ensures { λ r. ⌜ r ≡ every (a ∷ b ∷ []) ⌝ }
-{
-    if a { b } else { false }
-}
-
-pub fn all3(a: bool, b: bool, c: bool) -> bool
-    ensures { λ r. ⌜ r ≡ every (a ∷ b ∷ c ∷ []) ⌝ }
-{
-    if a { all2(b, c) } else { false }
-}
-
-pub fn all4(a: bool, b: bool, c: bool, d: bool) -> bool
-    ensures { λ r. ⌜ r ≡ every (a ∷ b ∷ c ∷ d ∷ []) ⌝ }
-{
-    if a { all3(b, c, d) } else { false }
-}
-
-pub fn all5(a: bool, b: bool, c: bool, d: bool, e: bool) -> bool
-    ensures { λ r. ⌜ r ≡ every (a ∷ b ∷ c ∷ d ∷ e ∷ []) ⌝ }
-{
-    if a { all4(b, c, d, e) } else { false }
-}
+ghost use Rattle.arena.specs.Lists.{within};
+use runs::all2;
 
 // Whether k is the kind of a type.
 pub fn of_type(k: u64) -> bool

@@ -18,7 +18,7 @@ use Rattle.arena.proofs.Bools.{t≢f, and-l, and-r, or-cases}
 use Rattle.arena.proofs.Chain.{term-type, type-kind}
 use Rattle.arena.proofs.Types.{width-range}
 use Rattle.arena.proofs.Formed.{wf}
-use Rattle.node_tests.specs.Decide.{heads}
+use Rattle.runs.specs.Strides.{heads}
 use Rattle.table.specs.Table.{Sort, ty, tm, Shape, fixed, pairs, run, #0, rest, notOf, notAlike, table, rowOf, row}
 use Rattle.table.specs.Call.{sortOk, sortsOk, operandsOk}
 use Rattle.table.specs.Forms.{sorts, Terms, Suited, lacks}

@@ -36,7 +36,7 @@ fn same_node(cells: &[u64], p: usize, q: usize) -> bool
     if cells[p] != cells[q] {
         return false;
     }
-    node_tests::runs::same_run(members(cells, p), members(cells, q))
+    runs::same_run(members(cells, p), members(cells, q))
 }
 
 // Whether no node below q has the cells of the good node at q. It would stand above the last member, so the search begins there; behind a count
@@ -105,7 +105,7 @@ fn starts_fresh(cells: &[u64]) -> bool
     ensures { λ r. ⌜ r ≡ sameList (take 12 (now (cells .entry))) (cellsIn fresh) ⌝ }
 {
     let fresh = [1u64, 0, 0, 0, 16, 0, 0, 0, 16, 0, 1, 0];
-    node_tests::runs::same_run(&cells[..12], &fresh)
+    runs::same_run(&cells[..12], &fresh)
 }
 
 // Whether the lent cells and the mark are a well-formed arena.
@@ -125,7 +125,7 @@ pub fn is_formed(cells: &[u64], mark: u64) -> bool
         return false;
     }
     let m = mark as usize;
-    if !node_tests::runs::zeros_from(cells, m) {
+    if !runs::zeros_from(cells, m) {
         return false;
     }
     if !starts_fresh(cells) {

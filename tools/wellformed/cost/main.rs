@@ -1,6 +1,7 @@
 // Times the well-formedness test on arenas filled with one mix of nodes. run.sh puts the modules beside this file.
 mod node_kinds;
 mod node_tests;
+mod runs;
 mod walks;
 mod wellformed;
 

@@ -8,10 +8,10 @@ trap 'rm -rf "$build"' EXIT
 
 # A Rattle file as Rust: no contracts, values copied, each crate a module.
 as_rust() {
-    sed -E '/^ *(ghost use|requires|ensures) /d; s/\b(walks|node_tests|node_kinds)::/crate::&/g; s/^pub enum /#[derive(Clone, Copy)]\n&/' "$1" >"$2"
+    sed -E '/^ *(ghost use|requires|ensures) /d; s/\b(walks|runs|node_tests|node_kinds)::/crate::&/g; s/^pub enum /#[derive(Clone, Copy)]\n&/' "$1" >"$2"
 }
 
-for crate in walks node_tests node_kinds wellformed; do
+for crate in walks runs node_tests node_kinds wellformed; do
     mkdir "$build/$crate"
     for file in "$crates/$crate"/src/*.rt; do
         as_rust "$file" "$build/$crate/$(basename "$file" .rt).rs"

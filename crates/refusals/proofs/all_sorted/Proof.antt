@@ -9,7 +9,7 @@ use Rattle.arena.specs.Lists.{all}
 use Rattle.arena.specs.Nodes.{kindAt}
 use Rattle.arena.specs.Cells.{used}
 use Rattle.arena.proofs.Starts.{first-kind}
-use Rattle.node_tests.specs.Decide.{heads}
+use Rattle.runs.specs.Strides.{heads}
 use Rattle.table.specs.Call.{sortOk}
 use Rattle.table.specs.Forms.{sort}
 use Rattle.table.proofs.Suits.{all-hit, all-miss, all-end}

@@ -7,7 +7,7 @@ use lib.ListN.{length, drop}
 use Rattle.arena.specs.Lists.{all, any}
 use Rattle.arena.specs.Cells.{used}
 use Rattle.arena.specs.WellFormed.{isTerm}
-use Rattle.node_tests.specs.Decide.{heads}
+use Rattle.runs.specs.Strides.{heads}
 use Rattle.table.specs.Forms.{misfit}
 use Rattle.table.proofs.Suits.{any-hit, any-miss, any-end, all-here, all-next}
 use Rattle.refusals.proofs.any_misfits.Statement.{statement}

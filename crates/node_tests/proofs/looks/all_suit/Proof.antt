@@ -6,8 +6,9 @@ use lib.ListN.{length, drop}
 use borrow.Author.Tests.{not-true, not-false}
 use Rattle.arena.specs.Lists.{all}
 use Rattle.arena.specs.Cells.{used}
-use Rattle.node_tests.specs.Decide.{wanted, held}
-use Rattle.node_tests.proofs.Turns.{held-hit, held-miss, held-end}
+use Rattle.runs.specs.Strides.{held}
+use Rattle.runs.proofs.Turns.{held-hit, held-miss, held-end}
+use Rattle.node_tests.specs.Decide.{wanted}
 use Rattle.node_tests.proofs.looks.all_suit.Statement.{statement}
 use Rattle.node_tests.proofs.looks.all_suit.Tie as tie
 

@@ -7,7 +7,7 @@ use Rattle.arena.specs.Lists.{sameList}
 use Rattle.arena.specs.Nodes.{fieldTypes}
 use Rattle.arena.specs.Cells.{used}
 use Rattle.arena.proofs.Loops.{list-length, types-hit, types-miss, types-miss-2, types-end}
-use Rattle.node_tests.proofs.Turns.{types-length}
+use Rattle.node_tests.proofs.Stands.{types-length}
 use Rattle.node_tests.proofs.looks.fields_typed.Statement.{statement}
 use Rattle.node_tests.proofs.looks.fields_typed.Tie as tie
 

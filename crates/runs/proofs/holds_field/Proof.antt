@@ -1,13 +1,13 @@
--- `node_tests::runs::holds_field` meets its contract.
+-- `runs::holds_field` meets its contract.
 use mathlib.Core.Path.{_≡_, refl, sym, _∙_}
 use Prim.Native.Nat.{_≤_, _-_}
 use native.Mathlib.Omega.{arith}
 use lib.ListN.{length, drop}
 use Rattle.arena.specs.Lists.{field}
 use Rattle.arena.proofs.Loops.{field-hit, field-miss, field-end}
-use Rattle.node_tests.proofs.Turns.{holds-some, holds-none}
-use Rattle.node_tests.proofs.runs.holds_field.Statement.{statement}
-use Rattle.node_tests.proofs.runs.holds_field.Tie as tie
+use Rattle.runs.proofs.Turns.{holds-some, holds-none}
+use Rattle.runs.proofs.holds_field.Statement.{statement}
+use Rattle.runs.proofs.holds_field.Tie as tie
 
 abbrev Inv-loop : tie.InvT-loop
 Inv-loop run k t i₀ i =

@@ -1,12 +1,12 @@
--- `node_tests::runs::same_run` meets its contract.
+-- `runs::same_run` meets its contract.
 use mathlib.Core.Path.{_≡_, refl, sym, _∙_}
 use Prim.Native.Nat.{_≤_, _-_}
 use native.Mathlib.Omega.{arith}
 use lib.ListN.{length, drop}
 use Rattle.arena.specs.Lists.{sameList}
 use Rattle.arena.proofs.Loops.{list-hit, list-miss, list-end, list-length}
-use Rattle.node_tests.proofs.runs.same_run.Statement.{statement}
-use Rattle.node_tests.proofs.runs.same_run.Tie as tie
+use Rattle.runs.proofs.same_run.Statement.{statement}
+use Rattle.runs.proofs.same_run.Tie as tie
 
 abbrev Inv-loop : tie.InvT-loop
 Inv-loop a b i₀ i =

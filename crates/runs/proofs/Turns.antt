@@ -1,16 +1,15 @@
 -- One turn of a loop over a run of numbers, by ones or by twos: the arena's laws of either, in one.
-use mathlib.Core.Path.{_≡_, refl, sym, ap, _∙_}
-use Prim.Native.Nat.{ℕ, zero, suc, _+_, _-_, _*_, _/_, _≤_, _<_}
+use mathlib.Core.Path.{_≡_, ap, _∙_}
+use Prim.Native.Nat.{ℕ, zero, suc, _+_, _-_, _≤_, _<_}
 use native.Mathlib.Omega.{arith}
 use mathlib.Core.Bool.{Bool, true, false}
 use mathlib.Core.Option.{none, some}
-use mathlib.Core.List.{List, [], _∷_}
+use mathlib.Core.List.{List}
 use lib.ListN.{length, drop, getD}
 use lib.Dec.{eqb}
 use Rattle.arena.specs.Lists.{all, rising, field, holdsField}
-use Rattle.arena.specs.Nodes.{Nodes, fieldTypes}
 use Rattle.arena.proofs.Loops.{all-hit, all-miss, all-end, odd-hit, odd-miss, odd-end, rise-hit, rise-miss, rise-end, key-hit, key-miss, key-end}
-use Rattle.node_tests.specs.Decide.{held, heads}
+use Rattle.runs.specs.Strides.{held, heads}
 
 by-step : (P : ℕ → Type 0) → P 1 → P 2 → (s : ℕ) → 1 ≤ s → s ≤ 2 → P s
 by-step P x y zero a b = absurd (omega arith)
@@ -63,9 +62,3 @@ holds-some r k t p e = rw (e, holdsField)
 pub holds-none : (r : List ℕ) (k t : ℕ) → field r k ≡ none → false ≡ holdsField r k t
 unfolding holdsField
 holds-none r k t e = rw (e, holdsField)
-
-pub types-length : (a : Nodes) (l : List ℕ) → length (fieldTypes a l) ≡ length l / 2 * 2
-unfolding fieldTypes
-types-length a [] = refl
-types-length a (x ∷ []) = refl
-types-length a (x ∷ y ∷ l) = let h = types-length a l in omega arith

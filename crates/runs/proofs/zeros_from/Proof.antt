@@ -1,4 +1,4 @@
--- `node_tests::runs::zeros_from` meets its contract.
+-- `runs::zeros_from` meets its contract.
 use mathlib.Core.Path.{_≡_, refl, sym, _∙_}
 use Prim.Native.Nat.{_≤_, _-_}
 use native.Mathlib.Omega.{arith}
@@ -7,8 +7,8 @@ use lib.Dec.{eqb}
 use borrow.Author.Tests.{eq-eqb, ne-eqb}
 use Rattle.arena.specs.Lists.{all}
 use Rattle.arena.proofs.Loops.{all-hit, all-miss, all-end}
-use Rattle.node_tests.proofs.runs.zeros_from.Statement.{statement}
-use Rattle.node_tests.proofs.runs.zeros_from.Tie as tie
+use Rattle.runs.proofs.zeros_from.Statement.{statement}
+use Rattle.runs.proofs.zeros_from.Tie as tie
 
 abbrev Inv-loop : tie.InvT-loop
 Inv-loop run m i₀ i =

@@ -1,7 +1,7 @@
--- `node_tests::tests::all2` meets its contract.
+-- `runs::all2` meets its contract.
 use Rattle.arena.proofs.Bools.{every-on, every-off, every-one}
-use Rattle.node_tests.proofs.tests.all2.Statement.{statement}
-use Rattle.node_tests.proofs.tests.all2.Tie as tie
+use Rattle.runs.proofs.all2.Statement.{statement}
+use Rattle.runs.proofs.all2.Tie as tie
 
 returns : tie.Need-returns
 returns c = every-on _ _ _ (c .if1 .taken) (every-one _)

@@ -1,8 +1,8 @@
--- `node_tests::tests::all3` meets its contract.
+-- `runs::all3` meets its contract.
 use borrow.Author.Needs.{needs}
 use Rattle.arena.proofs.Bools.{every-on, every-off}
-use Rattle.node_tests.proofs.tests.all3.Statement.{statement}
-use Rattle.node_tests.proofs.tests.all3.Tie as tie
+use Rattle.runs.proofs.all3.Statement.{statement}
+use Rattle.runs.proofs.all3.Tie as tie
 
 all2-requires : tie.Need-all2-requires
 all2-requires c κs = search needs

@@ -1,8 +1,8 @@
--- `node_tests::tests::all5` meets its contract.
+-- `runs::all5` meets its contract.
 use borrow.Author.Needs.{needs}
 use Rattle.arena.proofs.Bools.{every-on, every-off}
-use Rattle.node_tests.proofs.tests.all5.Statement.{statement}
-use Rattle.node_tests.proofs.tests.all5.Tie as tie
+use Rattle.runs.proofs.all5.Statement.{statement}
+use Rattle.runs.proofs.all5.Tie as tie
 
 all4-requires : tie.Need-all4-requires
 all4-requires c κs = search needs

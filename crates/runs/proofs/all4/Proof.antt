@@ -1,8 +1,8 @@
--- `node_tests::tests::all4` meets its contract.
+-- `runs::all4` meets its contract.
 use borrow.Author.Needs.{needs}
 use Rattle.arena.proofs.Bools.{every-on, every-off}
-use Rattle.node_tests.proofs.tests.all4.Statement.{statement}
-use Rattle.node_tests.proofs.tests.all4.Tie as tie
+use Rattle.runs.proofs.all4.Statement.{statement}
+use Rattle.runs.proofs.all4.Tie as tie
 
 all3-requires : tie.Need-all3-requires
 all3-requires c κs = search needs

@@ -1,12 +1,36 @@
-// Tests of runs of numbers: members, and fields as attribute and position in turn.
+// Tests of runs of numbers: members, and fields as attribute and position in turn. Several tests at once.
 ghost use mathlib.Core.Path.{_≡_};
+ghost use mathlib.Core.List.{[], _∷_};
 ghost use Prim.Native.Nat.{_≤_};
 ghost use lib.ListN.{length, getD, drop};
 ghost use lib.Dec.{eqb};
-ghost use Rattle.arena.specs.Lists.{all, rising, evens, sameList, holdsField};
+ghost use Rattle.arena.specs.Lists.{every, all, rising, evens, sameList, holdsField};
 ghost use Rattle.arena.specs.WellFormed.{small, fieldRun};
-ghost use Rattle.node_tests.specs.Decide.{heads};
-use super::tests::all4;
+ghost use Rattle.runs.specs.Strides.{heads};
+
+pub fn all2(a: bool, b: bool) -> bool
+    ensures { λ r. ⌜ r ≡ every (a ∷ b ∷ []) ⌝ }
+{
+    if a { b } else { false }
+}
+
+pub fn all3(a: bool, b: bool, c: bool) -> bool
+    ensures { λ r. ⌜ r ≡ every (a ∷ b ∷ c ∷ []) ⌝ }
+{
+    if a { all2(b, c) } else { false }
+}
+
+pub fn all4(a: bool, b: bool, c: bool, d: bool) -> bool
+    ensures { λ r. ⌜ r ≡ every (a ∷ b ∷ c ∷ d ∷ []) ⌝ }
+{
+    if a { all3(b, c, d) } else { false }
+}
+
+pub fn all5(a: bool, b: bool, c: bool, d: bool, e: bool) -> bool
+    ensures { λ r. ⌜ r ≡ every (a ∷ b ∷ c ∷ d ∷ e ∷ []) ⌝ }
+{
+    if a { all4(b, c, d, e) } else { false }
+}
 
 // Member i, or 0 past the end.
 pub fn nth(run: &[u64], i: usize) -> u64

@@ -1,4 +1,4 @@
--- `node_tests::runs::keys_small` meets its contract.
+-- `runs::keys_small` meets its contract.
 use mathlib.Core.Path.{_≡_, refl, sym, _∙_}
 use Prim.Native.Nat.{_≤_, _+_, _-_}
 use native.Mathlib.Omega.{arith}
@@ -7,8 +7,8 @@ use borrow.Author.Tests.{lt-ltb, le-ltb}
 use Rattle.arena.specs.Lists.{all, evens}
 use Rattle.arena.specs.WellFormed.{small}
 use Rattle.arena.proofs.Loops.{even-hit, even-miss, even-end}
-use Rattle.node_tests.proofs.runs.keys_small.Statement.{statement}
-use Rattle.node_tests.proofs.runs.keys_small.Tie as tie
+use Rattle.runs.proofs.keys_small.Statement.{statement}
+use Rattle.runs.proofs.keys_small.Tie as tie
 
 abbrev Inv-loop : tie.InvT-loop
 Inv-loop run i₀ i =

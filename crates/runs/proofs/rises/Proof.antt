@@ -1,13 +1,13 @@
--- `node_tests::runs::rises` meets its contract.
+-- `runs::rises` meets its contract.
 use mathlib.Core.Path.{_≡_, refl, sym, _∙_}
 use Prim.Native.Nat.{_≤_, _-_}
 use native.Mathlib.Omega.{arith}
 use lib.ListN.{length, drop}
 use Rattle.arena.specs.Lists.{rising}
-use Rattle.node_tests.specs.Decide.{heads}
-use Rattle.node_tests.proofs.Turns.{heads-hit, heads-miss, heads-end}
-use Rattle.node_tests.proofs.runs.rises.Statement.{statement}
-use Rattle.node_tests.proofs.runs.rises.Tie as tie
+use Rattle.runs.specs.Strides.{heads}
+use Rattle.runs.proofs.Turns.{heads-hit, heads-miss, heads-end}
+use Rattle.runs.proofs.rises.Statement.{statement}
+use Rattle.runs.proofs.rises.Tie as tie
 
 abbrev Inv-loop : tie.InvT-loop
 Inv-loop run step i₀ i =

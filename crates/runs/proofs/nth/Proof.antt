@@ -1,9 +1,9 @@
--- `node_tests::runs::nth` meets its contract.
+-- `runs::nth` meets its contract.
 use mathlib.Core.Path.{sym}
 use borrow.Author.Needs.{needs}
 use Rattle.arena.proofs.Lent.{get-far}
-use Rattle.node_tests.proofs.runs.nth.Statement.{statement}
-use Rattle.node_tests.proofs.runs.nth.Tie as tie
+use Rattle.runs.proofs.nth.Statement.{statement}
+use Rattle.runs.proofs.nth.Tie as tie
 
 mul-result : tie.Need-mul-result
 mul-result c = search needs

@@ -1,4 +1,4 @@
--- `node_tests::runs::field_run` meets its contract.
+-- `runs::field_run` meets its contract.
 use mathlib.Core.List.{[], _∷_}
 use mathlib.Core.Path.{_∙_}
 use Prim.Native.Nat.{_%_}
@@ -7,8 +7,8 @@ use lib.ListN.{length}
 use borrow.Author.Needs.{needs}
 use Rattle.arena.specs.WellFormed.{fieldRun}
 use Rattle.arena.specs.Lists.{every}
-use Rattle.node_tests.proofs.runs.field_run.Statement.{statement}
-use Rattle.node_tests.proofs.runs.field_run.Tie as tie
+use Rattle.runs.proofs.field_run.Statement.{statement}
+use Rattle.runs.proofs.field_run.Tie as tie
 
 rises-requires : tie.Need-rises-requires
 rises-requires c κs = search needs

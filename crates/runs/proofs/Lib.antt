@@ -1,0 +1,2 @@
+-- The laws of the tests on runs.
+pub mod Turns
