@@ -11,7 +11,7 @@ trap 'rm -rf "$build"' EXIT
 
 known=()
 crates=(bitvec bitvec_closures arena nodes walks sorting runs node_tests node_kinds wellformed factory_makers factory_core factory_bitvectors factory_data factory_helpers
-    compiler compiled instruction table refusals dispatch call codec answer_lines script tameswulk)
+    compiler compiled instruction table refusals dispatch call codec answers script tameswulk)
 for crate in "${crates[@]}"; do
     mkdir "$build/$crate"
     for file in "crates/$crate"/src/*.rt; do

@@ -114,7 +114,7 @@ def at_edges(operation, width, longest_shift):
     return {(operation, width, first, second) for first, second in pairs}
 
 
-def answer_lines(cases, answers):
+def answers(cases, answers):
     """One line for each case, rising, as `OPERATION WIDTH FIRST SECOND ANSWER`, each in decimal."""
     return [" ".join(map(str, case)) + f" {answer}" for case, answer in zip(cases, answers, strict=True)]
 

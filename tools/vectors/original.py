@@ -67,7 +67,7 @@ def main():
     run = subprocess.run([ORACLE / "target/release/oracle"], input=text, stdout=subprocess.PIPE, text=True, check=True)
     answers = run.stdout.splitlines()[3::5]
     numbers = [number(case, answer) for case, answer in zip(asked, answers, strict=True)]
-    return cases.keep_or_compare("original", cases.answer_lines(asked, numbers))
+    return cases.keep_or_compare("original", cases.answers(asked, numbers))
 
 
 sys.exit(main())

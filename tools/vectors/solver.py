@@ -77,7 +77,7 @@ def main():
         print("not compared with the solvers: " + install.stderr.strip())
         return 77
     asked = all_cases()
-    lists = [cases.answer_lines(asked, ask(solver, asked)) for solver in SOLVERS]
+    lists = [cases.answers(asked, ask(solver, asked)) for solver in SOLVERS]
     for line, other in zip(*lists):
         if line != other:
             print(f"vectors: z3 gives '{line}' and cvc5 '{other}'")

@@ -48,9 +48,3 @@ true-lit w = walked-ext litRule (w .base) T (omega arith)
 -- a term's type is a type
 pub tm-type : {a : Nodes} {t x : ℕ} → WF a → Tm a t x → isType a t ≡ true
 tm-type {a} {t} {x} w m = subst (λ (z : ℕ). isType a z ≡ true) (m .typed) (term-type (w .chain) x (m .isterm))
-
-pub mean-keep : (I : Interp) {a b : Nodes} {t x : ℕ} → Ext a b → Tm a t x → meaning I b x ≡ meaning I a x
-mean-keep I {a} {x = x} e m = meaning-ext I e x (term-below a x (m .isterm))
-
-pub lit-keep : {a b : Nodes} {t x : ℕ} → Ext a b → Tm a t x → isLit a x ≡ true → isLit b x ≡ true
-lit-keep {a} {x = x} e m l = walked-ext litRule e x (term-below a x (m .isterm)) ∙ l

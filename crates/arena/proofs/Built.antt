@@ -10,7 +10,7 @@ use Rattle.arena.specs.WellFormed.{isType, isTerm}
 use Rattle.arena.specs.Values.{Value}
 use Rattle.arena.specs.Meaning.{Interp, Good, meanNode, meaning}
 use Rattle.arena.proofs.Bools.{by-cases}
-use Rattle.arena.proofs.Ext.{Ext, ext-same, ext-trans}
+use Rattle.arena.proofs.Ext.{Ext, ext-same}
 use Rattle.arena.proofs.Chain.{WF, wf-ext, kind-type, meanNode-ext, mean-at, ruled-ext, lit-at}
 use Rattle.arena.proofs.View.{Tm, Is, good-pos}
 use Rattle.arena.proofs.Put.{put-law}
@@ -54,11 +54,6 @@ reads l f h = record { ext = l .ext; wf = l .wf; tm = l .tm; means = λ I G. l .
 
 pub retyped : {a : Nodes} {L : Type 0} {s t : ℕ} {v : Interp → Value} {o : Out} → s ≡ t → Law a L s v o → Law a L t v o
 retyped {a} {L} {v = v} {o = o} e l = subst (λ (z : ℕ). Law a L z v o) e l
-
--- a second step, over the arena that the first left
-pub chained : {a : Nodes} {L K : Type 0} {s t : ℕ} {u v : Interp → Value} {o : Out} (k : Nodes → ℕ → Out) → Law a L s u o → Law (o .arena) K t v (k (o .arena) (o .at))
-    → Law a K t v (k (o .arena) (o .at))
-chained k l r = record { ext = ext-trans (l .ext) (r .ext); wf = r .wf; tm = r .tm; means = r .means; lit = r .lit }
 
 pub law-if : {a : Nodes} {L : Type 0} {t : ℕ} {v : Interp → Value} (b : Bool) (x y : Out) → (b ≡ true → Law a L t v x) → (b ≡ false → Law a L t v y) → Law a L t v (cond b x y)
 law-if {a} {L} {t} {v} b x y f g = by-cases (Law a L t v) b x y f g

@@ -20,7 +20,7 @@ use Rattle.arena.proofs.Runs.{mem1, mem3, all-get, same-list}
 use Rattle.arena.proofs.Chain.{WF, placed-term, mean-at, lit-at}
 use Rattle.arena.proofs.View.{Tm}
 use Rattle.arena.proofs.Base.{false-tm, true-tm, false-means, true-means, false-lit, true-lit}
-use Rattle.arena.proofs.Types.{ty-bv, ty-opt, ty-rec}
+use Rattle.arena.proofs.Types.{ty-opt, ty-rec}
 use Rattle.arena.proofs.Whole.{good-kind, maker-test, core-test, bv-test, operand}
 use Rattle.arena.proofs.Fits.{zero-fits, opt-fits, rec-fits}
 use Rattle.arena.proofs.Sound.{fit-tm, bool-at, bits-at, set-at}
@@ -186,11 +186,6 @@ neg-node {a} w p e =
       under = record { isterm = operand w p 130 e (omega arith) 0 (omega arith); typed = eqb-true _ _ (h .1 .1 .1 .0) };
       means = mean-as w p e m (omega arith);
     }
-
--- the width of a bitvector term is its type's parameter
-pub width-tm : {a : Nodes} → WF a → {t x : ℕ} → kindAt a t ≡ 2 → Tm a t x → width (tyAt a x) ≡ parAt a t
-unfolding width
-width-tm {a} w {t} {x} e m = ap width (ap (tyOf a) (m .typed) ∙ ty-bv (w .chain) t e)
 
 -- ---- an interpretation: every variable and function is zero
 

@@ -17,7 +17,7 @@ use Rattle.arena.proofs.Chain.{no-node}
 use Rattle.arena.proofs.View.{good-pos}
 use Rattle.arena.proofs.Known.{B}
 use Rattle.arena.proofs.Formed.{mark-is}
-use Rattle.arena.proofs.Read.{read-kind, old-kind, room, slot-own}
+use Rattle.arena.proofs.Read.{old-kind, room, slot-own}
 use Rattle.arena.proofs.Tiling.{here-count, used-more}
 
 pub get-far : (l : List ℕ) (i : ℕ) → length l ≤ i → getD l i 0 ≡ 0
@@ -112,9 +112,6 @@ module _ {c : List ℕ} {q : ℕ} {f : List ℕ} (B : Below c q) (S : Starts (us
 
   pub no-start : (getD f (p / 4) 0 ≡ p % 4 + 1 → ⊥) → kindAt (used c q) p ≡ 0
   no-start h = zero-of (kindAt (used c q) p) (λ k. h (S .yes p k))
-
-  pub is-start : getD f (p / 4) 0 ≡ p % 4 + 1 → getD c p 0 ≡ kindAt (used c q) p
-  is-start h = read-kind B p (S .no p h)
 
 -- ---- what is sure
 

@@ -7,7 +7,7 @@ use mathlib.Core.Option.{none, some}
 use mathlib.Core.List.{List, [], _∷_}
 use lib.ListN.{length, drop, getD, length-drop, drop-of-length-le}
 use lib.Seq.{drop-cons}
-use lib.Dec.{eqb, leb, ltb}
+use lib.Dec.{eqb, leb}
 use borrow.Author.Tests.{eq-eqb, ne-eqb, leb-true, leb-false, lt-ltb, le-ltb}
 use Rattle.arena.specs.Lists.{all, any, sameList, evens, odds, field, rising}
 use Rattle.arena.specs.Nodes.{Nodes, typeAt, fieldTypes}
@@ -236,9 +236,3 @@ types-end a w l i h k = ap (λ (x : List ℕ). sameList x (fieldTypes a (drop i 
     go : {r : List ℕ} → Few r → sameList [] (fieldTypes a r) ≡ true
     go f0 = unfold sameList fieldTypes in refl
     go (f1 x) = unfold sameList fieldTypes in refl
-
-pub types-none : (a : Nodes) (l : List ℕ) → ltb (length l) 2 ≡ sameList [] (fieldTypes a l)
-unfolding sameList fieldTypes
-types-none a [] = refl
-types-none a (x ∷ []) = refl
-types-none a (x ∷ y ∷ l) = le-ltb (length (x ∷ y ∷ l)) 2 (omega arith)

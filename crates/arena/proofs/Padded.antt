@@ -14,10 +14,10 @@ use Rattle.arena.specs.Cells.{cellsOf, cells, padded, parse, used}
 use Rattle.arena.specs.WellFormed.{fewest, most, goodNode, wellFormed, clear, formed, IsArena}
 use Rattle.arena.proofs.Bools.{both-ways}
 use Rattle.arena.proofs.Runs.{all-at}
-use Rattle.arena.proofs.Ext.{Ext, mark-fresh, mark-cons}
+use Rattle.arena.proofs.Ext.{mark-fresh, mark-cons}
 use Rattle.arena.proofs.Chain.{WF}
 use Rattle.arena.proofs.Put.{put-wf}
-use Rattle.arena.proofs.Flat.{length-cells, parse-cells, ext-cells}
+use Rattle.arena.proofs.Flat.{length-cells, parse-cells}
 use Rattle.arena.proofs.Formed.{test-wf, fresh-wf, used-is, wf, cells-are, mark-is, below-of, formed-arena, arena-formed}
 
 zero-list : (l : List ℕ) → all (λ x. eqb x 0) l ≡ true → l ≡ replicate (length l) 0
@@ -110,11 +110,3 @@ fresh-arena n l h = let m = mark-fresh in subst (IsArena (padded n fresh)) m (pa
 -- zeros from the mark on give the cells back
 pub arena-cleared : {c : List ℕ} {m : ℕ} → IsArena c m → take m c ++ replicate (length c - m) 0 ≡ c
 arena-cleared {c} {m} A = ap (λ (l : List ℕ). take m c ++ l) (sym (arena-tail A)) ∙ take-append-drop m c
-
--- a longer arena's cells start with the older one's
-pub grown-take : {a b : Nodes} → Ext a b → (n : ℕ) → take (mark a) (padded n b) ≡ cells a
-grown-take {a} {b} e n =
-    let x = ext-cells e in
-    ap (λ (l : List ℕ). take (mark a) (l ++ replicate (n - mark b) 0)) (x .1)
-    ∙ ap (take (mark a)) (append-assoc (cells a) (x .0) (replicate (n - mark b) 0))
-    ∙ take-at (cells a) (x .0 ++ replicate (n - mark b) 0) (mark a) (length-cells a)

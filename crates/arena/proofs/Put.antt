@@ -1,17 +1,17 @@
 -- Finding or adding a node: the arena grows by that node or not at all, and the node stands at the answer.
 use mathlib.Core.Path.{_≡_, refl, sym, ap, _∙_, subst}
-use Prim.Native.Nat.{ℕ, _+_, _≤_, _<_}
+use Prim.Native.Nat.{ℕ, _≤_, _<_}
 use native.Mathlib.Omega.{arith}
 use mathlib.Core.Bool.{Bool, true, false}
 use mathlib.Core.Option.{Option, none, some}
 use mathlib.Core.List.{[], _∷_}
 use lib.Dec.{eqb}
 use borrow.Author.Tests.{eq-eqb, eqb-true, eqb-false}
-use Rattle.arena.specs.Nodes.{Node, Nodes, size, mark, nodeAt, kindAt, same, find, Out, out, putFound, put}
+use Rattle.arena.specs.Nodes.{Node, Nodes, mark, nodeAt, kindAt, same, find, Out, out, putFound, put}
 use Rattle.arena.specs.WellFormed.{goodNode}
 use Rattle.arena.proofs.Bools.{t≢f, none≢some, every-all, all-every}
 use Rattle.arena.proofs.Runs.{same-list, same-refl}
-use Rattle.arena.proofs.Ext.{Ext, ext-same, ext-one, mark-cons, mark-more, node-new, node-old, node-eq}
+use Rattle.arena.proofs.Ext.{Ext, ext-same, ext-one, mark-more, node-new, node-old, node-eq}
 use Rattle.arena.proofs.Chain.{Chain, nil, link, WF, wf-ext, no-node}
 
 pub same-node : (m n : Node) → same m n ≡ true → m ≡ n
@@ -117,12 +117,3 @@ put-found a n p e = rw (e, put)
 pub put-added : (a : Nodes) (n : Node) → find a n ≡ none → put a n ≡ out (n ∷ a) (mark a)
 unfolding put putFound
 put-added a n e = rw (e, put)
-
--- the arena grows by the node's cells at most
-pub put-mark : (a : Nodes) (n : Node) → mark (put a n .arena) ≤ mark a + size n
-unfolding put putFound
-put-mark a n = go (find a n)
-  where
-    go : (f : Option ℕ) → mark (putFound a n f .arena) ≤ mark a + size n
-    go (some p) = omega arith
-    go none = let h = mark-cons n a in omega arith

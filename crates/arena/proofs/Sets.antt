@@ -39,10 +39,6 @@ pub ltV-ne : (v w : Value) → ltV v w ≡ true → eqV v w ≡ false
 unfolding ltV eqV
 ltV-ne v w e = ap isEq (is-lt (compareV v w) e)
 
-pub ltV-ne' : (v w : Value) → ltV v w ≡ true → eqV w v ≡ false
-unfolding ltV compareV
-ltV-ne' v w e = eqV-ne w v (λ q. t≢f (sym e ∙ ap isLt (ap (λ (u : Value). compareV v u) q ∙ tree-refl (code v))))
-
 pub data Tri (v w : Value) : Ordering → Type 0 where
   tri-lt : ltV v w ≡ true → Tri v w Ordering·lt
   tri-eq : v ≡ w → Tri v w Ordering·eq
@@ -193,10 +189,6 @@ eqV-some v w = refl
 pub eqV-some-none : (v : Value) → eqV (vsome v) vnone ≡ false
 unfolding eqV compareV compareT code
 eqV-some-none v = refl
-
-pub eqV-none-some : (v : Value) → eqV vnone (vsome v) ≡ false
-unfolding eqV compareV compareT code
-eqV-none-some v = refl
 
 pub eqV-true : (b : Bool) → eqV (bool b) (bool true) ≡ b
 unfolding eqV compareV compareT code

@@ -8,8 +8,8 @@ use mathlib.Core.Option.{Option, none, some}
 use mathlib.Core.List.{List, _∷_, _++_}
 use lib.ListN.{length, take, drop}
 use lib.Seq.{length-take-le, take-append-le, take-take}
-use lib.Dec.{eqb, leb}
-use borrow.Author.Tests.{eq-eqb, ne-eqb, le-leb, lt-leb, leb-true, leb-false}
+use lib.Dec.{leb}
+use borrow.Author.Tests.{le-leb, lt-leb, leb-true, leb-false}
 use Rattle.arena.specs.Nodes.{Node, node, Nodes, size, mark, find, Out, out, putFound, put, _⨟_}
 use Rattle.arena.specs.Cells.{cellsOf, padded, used}
 use Rattle.arena.specs.WellFormed.{IsArena}
@@ -67,20 +67,6 @@ did-once f g = (f .answer ∙ sym (g .answer), λ h. f .left h ∙ sym (g .left 
 pub picked : {o q : Out} {c : List ℕ} {m : ℕ} {r : Reply} {c' : List ℕ} → Done o c m r c' → q ≡ o → Done q c m r c'
 picked {c = c} {m = m} {r = r} {c' = c'} d e = subst (λ (x : Out). Done x c m r c') (sym e) d
 
--- by a test, with what is built either way
-pub did-if : (b : Bool) (x y : Out) {c : List ℕ} {m : ℕ} {r : Reply} {c' : List ℕ} → b ≡ true → Done x c m r c' → Done (cond b x y) c m r c'
-did-if b x y e d = picked d (ap (λ (z : Bool). cond z x y) e)
-
-pub did-else : (b : Bool) (x y : Out) {c : List ℕ} {m : ℕ} {r : Reply} {c' : List ℕ} → b ≡ false → Done y c m r c' → Done (cond b x y) c m r c'
-did-else b x y e d = picked d (ap (λ (z : Bool). cond z x y) e)
-
--- a test of a number k, that was read as x
-pub read-is : {x k n : ℕ} → x ≡ k → x ≡ n → eqb k n ≡ true
-read-is {k = k} {n = n} e h = eq-eqb k n (sym e ∙ h)
-
-pub read-not : {x k n : ℕ} → x ≡ k → (x ≡ n → ⊥) → eqb k n ≡ false
-read-not {k = k} {n = n} e h = ne-eqb k n (λ q. h (e ∙ q))
-
 -- a term that is there already
 pub did-here : {c : List ℕ} {m : ℕ} → IsArena c m → (p : ℕ) → Done (out (used c m) p) c m (built m p) c
 did-here {c} {m} A p =
@@ -92,10 +78,6 @@ did-here {c} {m} A p =
       kept = refl;
       left = λ h. arena-cells A;
     }
-
--- at a position that was read as x
-pub did-read : {c : List ℕ} {m x p : ℕ} → IsArena c m → x ≡ p → Done (out (used c m) p) c m (built m x) c
-did-read {c} {m} {x} A e = picked (did-here A x) (ap (out (used c m)) (sym e))
 
 -- ---- a node found or added
 
@@ -171,10 +153,6 @@ module _ {o : Out} {c : List ℕ} {m : ℕ} {v : Reply} {c' : List ℕ} {m' p : 
   -- the arena in them
   pub then-used : used c' m' ≡ o .arena
   then-used = (λ i. used (then-cells i) (room .marked i)) ∙ padded-used (length c) (o .arena) (room .fits)
-
-  -- what holds in that arena and of that position holds in them
-  pub then-holds : (P : Nodes → ℕ → Type 0) → P (o .arena) (o .at) → P (used c' m') p
-  then-holds P h = subst (P (used c' m')) (sym (room .placed)) (subst (λ (a : Nodes). P a (o .at)) (sym then-used) h)
 
   -- the next step may be called
   pub then-arena : IsArena c m → WF (o .arena) → IsArena c' m'

@@ -183,14 +183,3 @@ module _ {a : Nodes} (w : WF a) where
 -- types of one structure are one position
 pub ty-canon : {a : Nodes} → WF a → (s t : ℕ) → isType a s ≡ true → isType a t ≡ true → tyOf a s ≡ tyOf a t → s ≡ t
 ty-canon w s t hs ht e = canon-to w (suc s) s t (omega arith) hs ht e
-
--- there is one Option of a type, and one Set of it
-pub opt-unique : {a : Nodes} → WF a → (s t : ℕ) → kindAt a s ≡ 3 → kindAt a t ≡ 3 → argAt a s 0 ≡ argAt a t 0 → s ≡ t
-opt-unique {a} w s t h k e =
-    ty-canon w s t (kind-type a s 3 h (omega arith) (omega arith)) (kind-type a t 3 k (omega arith) (omega arith))
-    (ty-opt (w .chain) s h ∙ ap (λ (z : ℕ). topt (tyOf a z)) e ∙ sym (ty-opt (w .chain) t k))
-
-pub set-unique : {a : Nodes} → WF a → (s t : ℕ) → kindAt a s ≡ 4 → kindAt a t ≡ 4 → argAt a s 0 ≡ argAt a t 0 → s ≡ t
-set-unique {a} w s t h k e =
-    ty-canon w s t (kind-type a s 4 h (omega arith) (omega arith)) (kind-type a t 4 k (omega arith) (omega arith))
-    (ty-set (w .chain) s h ∙ ap (λ (z : ℕ). tset (tyOf a z)) e ∙ sym (ty-set (w .chain) t k))

@@ -210,10 +210,6 @@ module _ {a : Nodes} (w : WF a) (p k : ℕ) (e : kindAt a p ≡ k) where
   unfolding kindTest
   bv-test h j = rw (lt-leb k 15 (omega arith), lt-leb k 99 (omega arith), lt-leb k 129 h, le-leb k 149 j, kindTest) at (node-test (omega arith))
 
-  pub data-test : 150 ≤ k → dataTest a k (typeAt a p) (parAt a p) (length (memAt a p)) (argAt a p 0) (argAt a p 1) ≡ true
-  unfolding kindTest
-  data-test h = rw (lt-leb k 15 (omega arith), lt-leb k 99 (omega arith), lt-leb k 129 (omega arith), lt-leb k 149 h, kindTest) at (node-test (omega arith))
-
   -- member i of an application is a term
   pub operand : 22 ≤ k → (i : ℕ) → i < length (memAt a p) → isTerm a (argAt a p i) ≡ true
   operand h i l =

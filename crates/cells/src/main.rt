@@ -8,7 +8,6 @@ ghost use mathlib.Core.Path.{_≡_};
 ghost use Prim.Native.Nat.{_≤_};
 ghost use lib.ListN.{length};
 ghost use Rattle.arena.specs.WellFormed.{IsArena};
-ghost use Rattle.table.specs.Answers.{replyOf, markAfter};
 
 // Bytes that a script has at most.
 const LONGEST: usize = 65536;
@@ -78,23 +77,10 @@ fn resolved(results: &[u64], instruction: Instruction) -> Instruction
 
 // ---- lines
 
-fn say_ok(position: u64, mark: u64) {
-    let mut line = [0u8; 45];
-    let end = answer_lines::write_ok(&mut line, 0, position, mark);
-    io::write_all(STDOUT_FILENO, part(&line, 0, end));
-}
-
-fn say_refused(number: u64) {
-    let mut line = [0u8; 29];
-    let end = answer_lines::write_refused(&mut line, 0, number);
-    io::write_all(STDOUT_FILENO, part(&line, 0, end));
-}
-
 fn say_answer(answer: Answer) {
-    match answer {
-        Answer::Accepted(position, mark) => say_ok(position, mark as u64),
-        Answer::Refused(number) => say_refused(number),
-    }
+    let mut line = [0u8; 45];
+    let end = answers::write_answer(&mut line, 0, answer);
+    io::write_all(STDOUT_FILENO, part(&line, 0, end));
 }
 
 // Writes the text where it gets full; answers where the next number goes.
@@ -120,7 +106,7 @@ fn say_cells(cells: &[u64], mark: usize) {
         }
         let at = flushed(&text, end);
         text[at] = b' ';
-        end = answer_lines::write_decimal(&mut text, at + 1, cells[i]);
+        end = answers::write_decimal(&mut text, at + 1, cells[i]);
         i += 1;
     }
     io::write_all(STDOUT_FILENO, part(&text, 0, end));
@@ -128,16 +114,6 @@ fn say_cells(cells: &[u64], mark: usize) {
 }
 
 // ---- scripts
-
-// The mark that an answer leaves.
-fn next_mark(mark: usize, answer: Answer) -> usize
-    ensures { λ r. ⌜ r ≡ markAfter mark (replyOf answer) ⌝ }
-{
-    match answer {
-        Answer::Accepted(_, next) => next,
-        Answer::Refused(_) => mark,
-    }
-}
 
 fn position(answer: Answer) -> u64 {
     match answer {
@@ -171,7 +147,7 @@ fn step(bytes: &[u8], cells: &mut [u64], results: &mut [u64], line: usize, place
     put(results, line, position(answer));
     Place {
         at: read.next,
-        mark: next_mark(place.mark, answer),
+        mark: answers::next_mark(place.mark, answer),
     }
 }
 

@@ -27,13 +27,13 @@ fn part(s: &[u8], from: usize, to: usize) -> &[u8] {
 
 fn say_ok(first: u64, second: u64) {
     let mut line = [0u8; 45];
-    let n = answer_lines::write_ok(&mut line, 0, first, second);
+    let n = answers::write_ok(&mut line, 0, first, second);
     io::write_all(STDOUT_FILENO, part(&line, 0, n));
 }
 
 fn say_refused(number: u64) {
     let mut line = [0u8; 29];
-    let n = answer_lines::write_refused(&mut line, 0, number);
+    let n = answers::write_refused(&mut line, 0, number);
     io::write_all(STDOUT_FILENO, part(&line, 0, n));
 }
 

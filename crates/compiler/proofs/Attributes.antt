@@ -21,7 +21,7 @@ use Rattle.arena.proofs.Sound.{fit-at}
 use Rattle.arena.proofs.Known.{Lit}
 use Rattle.factory.specs.Makers.{someOf}
 use Rattle.factory.specs.SetSteps.{recordGet}
-use Rattle.factory.specs.Helpers.{isSome, isOption}
+use Rattle.factory.specs.Helpers.{isOption}
 use Rattle.factory.specs.Meanings.{isNoneV, isOpt, optional, lifted}
 use Rattle.factory.proofs.Law.{Law, reads, onward, law-if}
 use Rattle.factory.proofs.Made.{bool-law}

@@ -6,9 +6,8 @@ use mathlib.Core.Option.{Option, none, some}
 use mathlib.Core.List.{List}
 use borrow.Author.Tests.{eq-eqb, ne-eqb}
 use Rattle.arena.specs.Lists.{field, fieldD}
-use Rattle.arena.specs.Nodes.{F, T, Nodes, kindAt, typeAt, Out, out, _⨟_}
-use Rattle.arena.specs.Values.{Ty, topt}
-use Rattle.arena.specs.Meaning.{tyOf}
+use Rattle.arena.specs.Nodes.{F, T, Nodes, kindAt, typeAt, Out, _⨟_}
+use Rattle.arena.specs.Values.{Ty}
 use Rattle.arena.proofs.Bools.{by-cases, t≢f}
 use Rattle.arena.proofs.Runs.{field-fieldD}
 use Rattle.arena.proofs.Ext.{Ext, ext-same}
@@ -20,11 +19,11 @@ use Rattle.factory.specs.Fit.{Typed, OfKind}
 use Rattle.factory.specs.Makers.{someOf}
 use Rattle.factory.specs.SetSteps.{recordGet}
 use Rattle.factory.specs.Helpers.{isOption}
-use Rattle.factory.proofs.Law.{opt-kind, typed-self}
+use Rattle.factory.proofs.Law.{opt-kind}
 use Rattle.factory.proofs.Made.{some-law}
 use Rattle.factory.proofs.Records.{recordGet-law}
 use Rattle.compiler.specs.Compiler.{fieldsAt, hasField, hasSome, compiledHasAttr, optioned}
-use Rattle.compiler.specs.Buffers.{HasField, OptionalField}
+use Rattle.compiler.specs.Buffers.{OptionalField}
 
 -- a term of a type of kind k stays one
 pub kind-keep : {a b : Nodes} {k x : ℕ} → Ext a b → 1 ≤ k → OfKind a k x → OfKind b k x

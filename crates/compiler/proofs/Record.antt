@@ -1,25 +1,23 @@
 -- The law of 73, compiled record.
-use mathlib.Core.Path.{_≡_, refl, sym, ap, ap₂, _∙_, subst}
+use mathlib.Core.Path.{_≡_, refl, sym, ap, ap₂, _∙_}
 use Prim.Native.Nat.{ℕ, suc, _%_, _≤_}
 use native.Mathlib.Omega.{arith}
 use mathlib.Core.Bool.{Bool, true, false, cond}
 use mathlib.Core.Logic.{_⊎_, inl, inr}
-use mathlib.Core.List.{List, [], _∷_, _++_, map, append-assoc, append-nil}
+use mathlib.Core.List.{List, [], _∷_, map}
 use lib.ListN.{length}
 use lib.Dec.{eqb, ltb}
 use borrow.Author.Tests.{eqb-true, eq-eqb}
 use Rattle.arena.specs.Lists.{all, evens, odds, putField, fieldsOf}
-use Rattle.arena.specs.Nodes.{Nodes, kindAt, typeAt, Out, _⨟_}
+use Rattle.arena.specs.Nodes.{Nodes, _⨟_}
 use Rattle.arena.specs.Walks.{isLit}
 use Rattle.arena.specs.WellFormed.{small, isTerm, sortIs}
 use Rattle.arena.specs.Values.{Ty, topt, trec, Value, vnone, vsome, getOr, fits}
 use Rattle.arena.specs.Meaning.{recTy, tyAt, Interp, Good, meaning}
 use Rattle.arena.proofs.Bools.{t≢f, or-false-l, or-false-r}
-use Rattle.arena.proofs.Runs.{all-at, all-cons, all0, all-imp2}
+use Rattle.arena.proofs.Runs.{all-at, all-cons, all0}
 use Rattle.arena.proofs.Ext.{Ext, ext-same, ext-trans}
 use Rattle.arena.proofs.Chain.{WF}
-use Rattle.arena.proofs.Base.{tm-ext}
-use Rattle.arena.proofs.Whole.{kind-ext}
 use Rattle.arena.proofs.Fits.{opt-fits}
 use Rattle.arena.proofs.Sound.{fit-at}
 use Rattle.arena.proofs.Known.{none-means, zeroI, zeroG}
@@ -28,7 +26,7 @@ use Rattle.factory.specs.Makers.{someOf, recordOf}
 use Rattle.factory.specs.SetSteps.{optionGet}
 use Rattle.factory.specs.Meanings.{means15, means55, isNoneV, anyNoneV, isOpt, optional, lifted}
 use Rattle.factory.proofs.Law.{Typed, opt-typed, typed-ext, mean-old, lit-old, Law, reads, retyped, onward}
-use Rattle.factory.proofs.Lists.{means-old, lits-old, terms-old}
+use Rattle.factory.proofs.Lists.{means-old, lits-old}
 use Rattle.factory.specs.Meanings.{recordTy}
 use Rattle.factory.proofs.Listed.{record-law}
 use Rattle.factory.proofs.Options.{get-law}

@@ -1,7 +1,7 @@
 -- compiler.rs for records: `compile_app1`, `compile_record`, `compile_has_attr`, `compile_get_attr`. Its terms are unwrapped already.
 use Prim.Native.Nat.{ℕ}
 use mathlib.Core.Bool.{Bool, true, false, cond}
-use mathlib.Core.Option.{Option, none, some}
+use mathlib.Core.Option.{none, some}
 use mathlib.Core.List.{List, [], _∷_}
 use Rattle.arena.specs.Lists.{odds, field, fieldD}
 use Rattle.arena.specs.Nodes.{F, T, Nodes, typeAt, memAt, Out, out, _⨟_}

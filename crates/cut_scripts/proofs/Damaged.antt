@@ -8,7 +8,7 @@ use Rattle.smtlib.specs.Logic.{top, byTops, bvsub, bvsdiv, bvsrem, bvabs, bvsmo
 use Rattle.smtlib.specs.Overflow.{bv2int, outside, bvnego, bvsaddo, bvssubo, bvsmulo}
 use Rattle.smtlib.specs.Numbered.{bvappOf, bvcmpOf, bvsoOf}
 use Rattle.arena.specs.Lists.{every, all, any, sameList, evens, odds, field, fieldD, holdsField, rising, insert, sorted, common, putField, fieldsOf}
-use Rattle.arena.specs.Nodes.{Node, node, Nodes, fresh, mark, over, nodeAt, positions, keys, fieldTypes, same, find, putFound, put}
+use Rattle.arena.specs.Nodes.{mark, over, nodeAt, positions, keys, fieldTypes, same, find, putFound, put}
 use Rattle.arena.specs.Cells.{cells, parseOn, parse, used, nodeHere}
 use Rattle.arena.specs.Walks.{ruled, walked, litRule, freeRule}
 use Rattle.arena.specs.WellFormed.{fieldRun, placed, typeTest, makerTest, coreTest, bvTest, dataTest, kindTest, goodNode, isFresh, startsFresh, goodNodes, absent, distinct, wellFormed, filled, clear, formed}
@@ -22,9 +22,10 @@ use Rattle.table.specs.Table.{table, rowOf, known, row}
 use Rattle.codec.specs.Digits.{digitsIn, digits}
 use Rattle.codec.specs.Numbers.{marked, groups, value, run as groupsRun, same as sameBytes, numberOf, numberAt}
 use Rattle.codec.specs.Instructions.{onto as numberOnto, first, numbersAt, after, operands, instructionAt}
-use Rattle.answer_lines.specs.Lines.{text, decimal, field as lineField, okLine, refusedLine}
-use Rattle.table.specs.Call.{Reply, ok, refused, countOk, tooMany, sortOk, sortsOk, operandsOk, firstOf, tests, refusal, fitted, call, callOn}
-use Rattle.script.specs.Script.{lineOf, stepOn, steps, answers, cellsAfter}
+use Rattle.answers.specs.Lines.{text, decimal, field as lineField, okLine, refusedLine}
+use Rattle.table.specs.Call.{ok, refused, countOk, tooMany, sortOk, sortsOk, operandsOk, firstOf, tests, refusal, fitted, call, callOn}
+use Rattle.answers.specs.Replies.{lineOf}
+use Rattle.script.specs.Script.{stepOn, steps, answers}
 use Rattle.script.proofs.Examples.{Example, example, lines, holds}
 
 unfoldable damaged : List Example

@@ -36,29 +36,16 @@ fn part(s: &[u8], from: usize, to: usize) -> &[u8] {
 
 // ---- lines
 
-fn say_ok(position: u64, mark: u64) {
-    let mut line = [0u8; 45];
-    let end = answer_lines::write_ok(&mut line, 0, position, mark);
-    io::write_all(STDOUT_FILENO, part(&line, 0, end));
-}
-
-fn say_refused(number: u64) {
-    let mut line = [0u8; 29];
-    let end = answer_lines::write_refused(&mut line, 0, number);
-    io::write_all(STDOUT_FILENO, part(&line, 0, end));
-}
-
 fn say_answer(answer: Answer) {
-    match answer {
-        Answer::Accepted(position, mark) => say_ok(position, mark as u64),
-        Answer::Refused(number) => say_refused(number),
-    }
+    let mut line = [0u8; 45];
+    let end = answers::write_answer(&mut line, 0, answer);
+    io::write_all(STDOUT_FILENO, part(&line, 0, end));
 }
 
 // A blank, and a number.
 fn say_number(n: u64) {
     let mut text = [0u8; 20];
-    let end = answer_lines::write_decimal(&mut text, 0, n);
+    let end = answers::write_decimal(&mut text, 0, n);
     io::write_all(STDOUT_FILENO, b" ");
     io::write_all(STDOUT_FILENO, part(&text, 0, end));
 }
@@ -105,19 +92,11 @@ fn number(bytes: &[u8], at: usize) -> Got {
     }
 }
 
-// The mark that an answer leaves.
-fn next_mark(mark: u64, answer: Answer) -> u64 {
-    match answer {
-        Answer::Accepted(_, next) => next as u64,
-        Answer::Refused(_) => mark,
-    }
-}
-
 // One instruction. Where none can be read, no byte is left.
 fn step(bytes: &[u8], cells: &mut [u64], place: Place) -> Place {
     let read = codec::read_instruction(bytes, place.at);
     if !read.good {
-        say_refused(10);
+        say_answer(Answer::Refused(10));
         return Place {
             at: bytes.len(),
             mark: place.mark,
@@ -128,7 +107,7 @@ fn step(bytes: &[u8], cells: &mut [u64], place: Place) -> Place {
     say_answer(answer);
     Place {
         at: read.next,
-        mark: next_mark(place.mark, answer),
+        mark: answers::next_mark(place.mark as usize, answer) as u64,
     }
 }
 

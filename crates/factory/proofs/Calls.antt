@@ -4,7 +4,6 @@ use Prim.Native.Nat.{ℕ, _≤_}
 use native.Mathlib.Omega.{arith}
 use mathlib.Core.Bool.{true}
 use mathlib.Core.List.{List}
-use lib.Dec.{leb}
 use borrow.Author.Tests.{leb-true}
 use Rattle.arena.specs.Nodes.{Nodes, kindAt, Out}
 use Rattle.arena.specs.Cells.{used}

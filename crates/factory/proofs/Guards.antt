@@ -7,7 +7,7 @@ use mathlib.Core.List.{List, [], _∷_, map}
 use lib.Dec.{eqb}
 use borrow.Author.Tests.{eqb-true}
 use Rattle.arena.specs.Lists.{all}
-use Rattle.arena.specs.Nodes.{F, Nodes, kindAt, typeAt, elemAt, _⨟_}
+use Rattle.arena.specs.Nodes.{F, Nodes, kindAt, typeAt, elemAt}
 use Rattle.arena.specs.Walks.{isLit}
 use Rattle.arena.specs.WellFormed.{isType, isTerm, sortIs}
 use Rattle.arena.specs.Values.{Ty, tbool, tbv, topt, tset, trec, bool, vnone, vsome, asBool}
@@ -22,7 +22,7 @@ use Rattle.arena.proofs.Base.{false-lit, false-means}
 use Rattle.arena.proofs.Known.{Lit, B}
 use Rattle.factory.specs.Fit.{Options}
 use Rattle.factory.specs.Makers.{noneOf, someOf}
-use Rattle.factory.specs.Core.{orT, iteT}
+use Rattle.factory.specs.Core.{orT}
 use Rattle.factory.specs.Helpers.{isNone, orSome, ifFalse, orNone, ifTrue, isOption, noneOr, guarded, ifSome, orIsNone, anyNoneOn, anyNone, ifAllSome}
 use Rattle.factory.specs.Meanings.{isNoneV, anyNoneV, isOpt, optional, lifted, means62, means63, means64, means65, means66}
 use Rattle.factory.proofs.Law.{Typed, typed-type, tm-bool, opt-kind, typed-ext, mean-old, lit-old, Law, reads, onward}

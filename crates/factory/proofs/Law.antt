@@ -10,7 +10,7 @@ use Rattle.arena.specs.Meaning.{tyOf, tyAt, Interp, Good, meanNode, meaning}
 pub use Rattle.factory.specs.Fit.{Typed}
 use Rattle.arena.proofs.Bools.{by-cases}
 use Rattle.arena.proofs.Ext.{Ext, ext-same, ext-trans, ty-ext, meaning-ext, walked-ext}
-use Rattle.arena.proofs.Chain.{WF, type-below, term-below, type-ext, term-ext, term-type, placed-term, tyAt-ext}
+use Rattle.arena.proofs.Chain.{WF, type-below, term-below, term-ext, term-type, placed-term, tyAt-ext}
 use Rattle.arena.proofs.View.{Tm, Is}
 use Rattle.arena.proofs.Types.{ty-bv, ty-opt, ty-set, ty-bool}
 use Rattle.arena.proofs.Base.{bool-type}
@@ -108,11 +108,6 @@ pub record Law (a : Nodes) (L : Type 0) (y : Ty) (v : Interp → Value) (o : Out
   pub typed : Typed (o .arena) y (o .at)
   pub means : (I : Interp) → Good I → meaning I (o .arena) (o .at) ≡ v I
   pub lit : L → isLit (o .arena) (o .at) ≡ true
-
--- by position: the answer's type is the one at t
-pub law-tm : {a : Nodes} {L : Type 0} {v : Interp → Value} {o : Out} (t : ℕ) → isType a t ≡ true → Law a L (tyOf a t) v o → Tm (o .arena) t (o .at)
-law-tm {a} t h l =
-    typed-tm (l .wf) (type-ext (l .ext) t h) (record { isterm = l .typed .isterm; typed = l .typed .typed ∙ sym (ty-ext (l .ext) t (type-below a t h)) })
 
 -- an operand as the answer
 pub stay : {a : Nodes} {L : Type 0} {y : Ty} {v : Interp → Value} (p : ℕ) → WF a → Typed a y p → ((I : Interp) → Good I → meaning I a p ≡ v I)

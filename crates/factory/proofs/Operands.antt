@@ -1,9 +1,9 @@
 -- What operands that fit are to the bitvector operations and to the steps on options. Assumes nothing.
-use mathlib.Core.Path.{_≡_, refl, sym, ap, _∙_, subst}
+use mathlib.Core.Path.{_≡_, refl, sym, _∙_, subst}
 use Prim.Native.Nat.{ℕ, _+_, _^_, _≤_, _<_}
 use mathlib.Core.List.{[]}
 use native.Mathlib.Omega.{arith}
-use mathlib.Core.Bool.{Bool, true, _&&_}
+use mathlib.Core.Bool.{Bool, true}
 use mathlib.Core.Logic.{inl}
 use lib.Dec.{eqb}
 use borrow.Author.Tests.{eqb-true, leb-true}
@@ -11,7 +11,7 @@ use Rattle.smtlib.specs.Theory.{IsWidth, IsBv, AreBv}
 use Rattle.arena.specs.Nodes.{node, Nodes, kindAt, typeAt, parAt, argAt, elemAt, widthAt, put, Out}
 use Rattle.arena.specs.WellFormed.{isType, isTerm}
 use Rattle.arena.specs.Values.{Ty, tbool, topt, tset}
-use Rattle.arena.specs.Meaning.{tyOf, tyAt}
+use Rattle.arena.specs.Meaning.{tyOf}
 use Rattle.arena.proofs.Bools.{by-cases, every-all, and-l, and-r}
 use Rattle.arena.proofs.Ext.{Ext}
 use Rattle.arena.proofs.View.{is-bv}

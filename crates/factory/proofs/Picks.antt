@@ -8,7 +8,7 @@ use mathlib.Core.Option.{Option, none, some}
 use mathlib.Core.List.{List, [], _∷_, _++_, append-assoc, append-nil}
 use lib.Dec.{eqb}
 use lib.ListN.{length, take, drop, set, getD, length-set, length-append, drop-of-length-le}
-use lib.Seq.{set-split, length-take-le, take-set-lt, take-suc-set, drop-set-lt}
+use lib.Seq.{set-split, length-take-le, take-suc-set, drop-set-lt}
 use borrow.Author.Tests.{ne-eqb}
 use Rattle.arena.specs.Lists.{all, odds, mem?, common, field, fieldD}
 use Rattle.arena.specs.Nodes.{Nodes, typeAt, fieldTypes}

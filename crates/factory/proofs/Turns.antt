@@ -1,20 +1,18 @@
 -- any_none, one option at a time: what is left to do, and what the whole then is. Assumes nothing.
-use mathlib.Core.Path.{_≡_, refl, ap, subst}
+use mathlib.Core.Path.{_≡_, subst}
 use Prim.Native.Nat.{ℕ, _+_, _≤_, _<_}
 use lib.ListN.{length, drop, getD, drop-of-length-le}
 use Rattle.arena.proofs.Loops.{one}
-use mathlib.Core.Bool.{true, false}
+use mathlib.Core.Bool.{false}
 use mathlib.Core.List.{List, [], _∷_}
-use Rattle.arena.specs.Nodes.{F, Nodes, Out, _⨟_}
+use Rattle.arena.specs.Nodes.{F, Nodes, Out}
 use Rattle.arena.specs.Cells.{used}
 use Rattle.arena.specs.Values.{tbool}
-use Rattle.arena.specs.Meaning.{Interp, meaning}
+use Rattle.arena.specs.Meaning.{meaning}
 use Rattle.arena.specs.Did.{Reply, built, full, Done}
-use Rattle.arena.proofs.Ext.{ext-trans}
 use Rattle.arena.proofs.Chain.{WF}
-use Rattle.arena.proofs.Steps.{seen, did-here, did-then, did-stop}
+use Rattle.arena.proofs.Steps.{did-here, did-then, did-stop}
 use Rattle.factory.specs.Fit.{Typed, OfKind, Options, Ready}
-use Rattle.factory.specs.Core.{orT}
 use Rattle.factory.specs.Helpers.{isNone, orIsNone, anyNoneOn, anyNone}
 use Rattle.factory.proofs.Law.{Law, tm-bool, typed-ext, onward}
 use Rattle.factory.proofs.Made.{bool-at-tm}
@@ -24,7 +22,7 @@ use Rattle.factory.proofs.Operands.{opt-of}
 use Rattle.factory.proofs.Guards.{options-ext, options-terms, anyNoneOn-law}
 use Rattle.factory.proofs.Calls.{ready-wf, ready-next}
 use Rattle.arena.proofs.Known.{Lit}
-use Rattle.factory.specs.Meanings.{means22, means60}
+use Rattle.factory.specs.Meanings.{means22}
 
 -- one step: the option's test, and its or with what is known
 pub orIsNone-law : {a : Nodes} (w : WF a) (g acc : ℕ) → OfKind a 3 g → Typed a tbool acc

@@ -1,7 +1,7 @@
 -- 'SMTLib theory of finite bitvectors': literals are folded and nothing else, but for a double bvneg.
 use Prim.Native.Nat.{ℕ, _+_}
 use mathlib.Core.Bool.{Bool, cond, _&&_}
-use mathlib.Core.List.{List, [], _∷_}
+use mathlib.Core.List.{[], _∷_}
 use lib.Dec.{eqb}
 use Rattle.smtlib.specs.Theory.{bvneg}
 use Rattle.smtlib.specs.Logic.{zeroExtend}

@@ -1,7 +1,7 @@
 -- 'SMTLib core theory of equality with uninterpreted functions': the tests in the order of the Rust's.
-use Prim.Native.Nat.{ℕ, _+_}
-use mathlib.Core.Bool.{Bool, true, false, cond, _&&_, _||_}
-use mathlib.Core.List.{List, [], _∷_}
+use Prim.Native.Nat.{ℕ}
+use mathlib.Core.Bool.{Bool, false, cond, _&&_, _||_}
+use mathlib.Core.List.{[], _∷_}
 use lib.Dec.{eqb}
 use Rattle.arena.specs.Nodes.{F, T, node, Nodes, kindAt, typeAt, argAt, put, Out, out, _⨟_}
 use Rattle.arena.specs.Walks.{isLit}

@@ -4,7 +4,7 @@ use Prim.Native.Nat.{ℕ, _+_}
 use mathlib.Core.Bool.{Bool, cond}
 use mathlib.Core.List.{List, [], _∷_}
 use Rattle.arena.specs.Lists.{sorted, fieldsOf}
-use Rattle.arena.specs.Nodes.{F, T, node, Nodes, typeAt, fieldTypes, put, Out, out, _⨟_}
+use Rattle.arena.specs.Nodes.{F, T, node, Nodes, typeAt, fieldTypes, put, Out, _⨟_}
 
 -- the literal of a bool: nothing is added
 abbrev pub boolAt : Bool → ℕ

@@ -77,7 +77,12 @@ pub fn bvapp(cells: &mut [u64], cursor: Cursor, op: u64, t: TermPos, u: TermPos)
         let width = width_of(cells, cursor, t);
         let lhs = par_of(cells, cursor.mark, t.0);
         let rhs = par_of(cells, cursor.mark, u.0);
-        return bitvec_lit(cells, cursor, ty, bitvec_closures::bvapp(op, width, lhs, rhs));
+        return bitvec_lit(
+            cells,
+            cursor,
+            ty,
+            bitvec_closures::bvapp(op, width, lhs, rhs),
+        );
     }
     app2(cells, cursor, op, ty, t, u)
 }

@@ -38,9 +38,6 @@ module _ {c : List ℕ} {q : ℕ} {f : List ℕ} (R : Ready c q f) (p : ℕ) whe
   own-slot = slot (R .below) (R .starts) p
 
   module _ (h : getD f (p / 4) 0 ≡ p % 4 + 1) (j : ℕ) (l : j ≤ 3) where
-    pub look-fits : p + j < length c
-    look-fits = let x = node-fits (R .below) p (R .starts .no p h) in omega arith
-
     pub look-cell : getD c (p + j) 0 ≡ getD (cellsOf (nodeAt (used c q) p)) j 0
     look-cell = cell (R .below) p (R .starts .no p h) j (omega arith)
 

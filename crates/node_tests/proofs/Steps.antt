@@ -10,7 +10,7 @@ use borrow.Author.Tests.{eq-eqb}
 use Rattle.arena.specs.Lists.{all, sameList}
 use Rattle.arena.specs.Nodes.{Node, Nodes, same, fresh}
 use Rattle.arena.specs.Cells.{cells, used, nodeHere, after}
-use Rattle.arena.specs.WellFormed.{fewest, most, goodNode, absent, clear, formed, Below}
+use Rattle.arena.specs.WellFormed.{goodNode, absent, clear, formed, Below}
 use Rattle.arena.specs.Lent.{Starts}
 use Rattle.arena.proofs.Bools.{t≢f, every-on, every-one}
 use Rattle.arena.proofs.Runs.{same-list, same-refl}

@@ -10,13 +10,14 @@ use Rattle.arena.specs.Nodes.{mark, fresh}
 use Rattle.arena.specs.Cells.{padded}
 use Rattle.instruction.specs.Instruction.{Instr}
 use Rattle.codec.specs.Instructions.{Reading, whole, bad, instructionAt, allGroups, numbers, Encodes}
-use Rattle.answer_lines.specs.Lines.{refusedLine}
+use Rattle.answers.specs.Lines.{refusedLine}
 use Rattle.codec.proofs.Choices.{lt-or-le}
 use Rattle.codec.proofs.Listed.{instruction-read, instruction-back}
 use Rattle.table.specs.Call.{callOn}
 use Rattle.table.specs.Answers.{markAfter}
-use Rattle.script.specs.Script.{longest, lent, State, state, start, Step, wrote, lineOf, called, stepOn, step, onto, ran, answers}
-use Rattle.script.specs.Calls.{Sayable, AllSayable, said, calls, lastLine}
+use Rattle.answers.specs.Replies.{lineOf}
+use Rattle.script.specs.Script.{longest, lent, state, Step, stepOn, ran, answers}
+use Rattle.script.specs.Calls.{AllSayable, said, calls, lastLine}
 use Rattle.script.proofs.Short.{three-bytes}
 use Rattle.script.proofs.Steps.{ran-more, ran-end}
 

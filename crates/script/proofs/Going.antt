@@ -1,7 +1,7 @@
 -- The lines so far and the run that is left: what holds from step to step, and what the functions promise at the end. Assumes nothing.
 use mathlib.Core.Path.{_≡_, refl, sym, ap, _∙_, subst}
 use mathlib.Core.List.{List, [], _++_, append-assoc, append-nil}
-use Prim.Native.Nat.{ℕ, _+_, _*_, _≤_, _<_}
+use Prim.Native.Nat.{ℕ, _+_, _≤_, _<_}
 use native.Mathlib.Omega.{arith}
 use borrow.Author.Tests.{le-leb, lt-leb}
 use lib.ListN.{length, drop, length-append}
@@ -14,27 +14,16 @@ use Rattle.arena.proofs.FreshCells.{made-used, made-arena}
 use Rattle.instruction.specs.Instruction.{Instr}
 use Rattle.codec.specs.Instructions.{whole, bad, instructionAt}
 use Rattle.codec.specs.Writing.{put, Puts}
-use Rattle.answer_lines.specs.Lines.{okLine, refusedLine}
+use Rattle.answers.specs.Lines.{okLine, refusedLine}
 use Rattle.codec.proofs.Putting.{length-put, puts-puts}
-use Rattle.table.specs.Call.{Reply, callOn}
+use Rattle.table.specs.Call.{Reply}
 use Rattle.table.specs.Answers.{replyOf, Answered, markAfter}
 use Rattle.table.specs.declared.Answer.{Answer}
-use Rattle.table.specs.declared.Answer.the-variants.{Accepted, Refused}
-use Rattle.script.specs.Script.{longest, lent, State, state, start, Step, wrote, lineOf, called, stepOn, step, onto, ran, answers, cellsAfter}
+use Rattle.answers.specs.Replies.{lineOf}
+use Rattle.script.specs.Script.{longest, lent, State, state, start, Step, wrote, stepOn, step, onto, ran, answers, cellsAfter}
 use Rattle.script.specs.Running.{room, Stepped, Ready, Walked, Ran}
 use Rattle.script.specs.declared.Place.{Place}
 use Rattle.script.proofs.Steps.{step-passes, ran-more, ran-end, Stands, step-goes}
-
--- ---- an answer
-
-module _ {out : List ℕ} {at end : ℕ} {after : List ℕ} {a : Answer} where
-  pub line-accepted : {p m : ℕ} → a ≡ Accepted p m → Puts out at (okLine p m) end after → Puts out at (lineOf (replyOf a)) end after
-  unfolding lineOf
-  line-accepted e w = rw e w
-
-  pub line-refused : {n : ℕ} → a ≡ Refused n → Puts out at (refusedLine n) end after → Puts out at (lineOf (replyOf a)) end after
-  unfolding lineOf
-  line-refused e w = rw e w
 
 -- ---- one step
 

@@ -5,17 +5,17 @@ use Prim.Native.Nat.{ℕ, suc, _+_, _^_, _≤_, _<_}
 use native.Mathlib.Omega.{arith}
 use lib.ListN.{length, drop, length-append, length-drop}
 use Rattle.instruction.specs.Instruction.{Instr}
-use Rattle.codec.specs.Digits.{digits}
 use Rattle.codec.specs.Numbers.{groups}
 use Rattle.codec.specs.Instructions.{whole, instructionAt, allGroups, numbers}
-use Rattle.answer_lines.specs.Lines.{decimal, field, ok, refused, space, newline, okLine, refusedLine}
+use Rattle.answers.specs.Lines.{decimal, field, ok, refused, space, newline, okLine, refusedLine}
 use Rattle.codec.proofs.Digits.{digits-most}
 use Rattle.codec.proofs.Groups.{groups-some}
-use Rattle.answer_lines.proofs.Turns.{length-decimal}
+use Rattle.answers.proofs.Turns.{length-decimal}
 use Rattle.codec.proofs.Listed.{instruction-read}
 use Rattle.table.specs.Call.{Reply, ok as oks, refused as refuses}
 use Rattle.table.proofs.Kept.{Small}
-use Rattle.script.specs.Script.{lent, lineOf}
+use Rattle.answers.specs.Replies.{lineOf}
+use Rattle.script.specs.Script.{lent}
 
 some-more : (n : ℕ) (ns : List ℕ) → length (allGroups ns) < length (allGroups (n ∷ ns))
 unfolding allGroups

@@ -1,21 +1,19 @@
 -- A step moves on within the bytes, writes a short line and leaves an arena; and how a run goes on from it. Assumes nothing.
 use mathlib.Core.Path.{_≡_, refl, sym, ap, _∙_, subst}
-use mathlib.Core.List.{List, [], _++_}
+use mathlib.Core.List.{List, []}
 use Prim.Native.Nat.{ℕ, zero, suc, _+_, _*_, _≤_, _<_}
 use native.Mathlib.Omega.{arith}
 use borrow.Author.Tests.{leb-false, le-leb, lt-leb}
 use lib.Dec.{leb}
 use lib.ListN.{length}
 use Rattle.arena.specs.WellFormed.{IsArena}
-use Rattle.instruction.specs.Instruction.{Instr}
 use Rattle.codec.specs.Instructions.{Reading, whole, bad, instructionAt}
-use Rattle.answer_lines.specs.Lines.{refusedLine}
 use Rattle.codec.proofs.Choices.{cond-else}
 use Rattle.codec.proofs.Listed.{instruction-read}
-use Rattle.answer_lines.proofs.Answers.{refused-most}
+use Rattle.answers.proofs.Answers.{refused-most}
 use Rattle.table.specs.Call.{callOn}
 use Rattle.table.proofs.Kept.{Small, kept, small}
-use Rattle.script.specs.Script.{lent, State, Step, wrote, lineOf, called, stepOn, step, onto, steps, ran}
+use Rattle.script.specs.Script.{lent, State, Step, wrote, stepOn, step, onto, steps, ran}
 use Rattle.script.proofs.Short.{three-bytes, line-short}
 
 -- ---- how many steps there are

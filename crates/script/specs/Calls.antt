@@ -5,10 +5,10 @@ use mathlib.Core.List.{List, [], _∷_, _++_}
 use lib.ListN.{length, getD}
 use Rattle.instruction.specs.Instruction.{Instr}
 use Rattle.codec.specs.Instructions.{allGroups, numbers}
-use Rattle.answer_lines.specs.Lines.{refusedLine}
+use Rattle.answers.specs.Lines.{refusedLine}
 use Rattle.table.specs.Call.{callOn}
 use Rattle.table.specs.Answers.{markAfter}
-use Rattle.script.specs.Script.{lineOf}
+use Rattle.answers.specs.Replies.{lineOf}
 
 -- an instruction that bytes can say
 pub record Sayable (i : Instr) : Type 0 where

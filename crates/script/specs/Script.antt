@@ -8,8 +8,9 @@ use Rattle.arena.specs.Nodes.{mark, fresh}
 use Rattle.arena.specs.Cells.{padded}
 use Rattle.instruction.specs.Instruction.{Instr}
 use Rattle.codec.specs.Instructions.{Reading, whole, bad, instructionAt}
-use Rattle.answer_lines.specs.Lines.{okLine, refusedLine}
-use Rattle.table.specs.Call.{Reply, ok, refused, callOn}
+use Rattle.answers.specs.Lines.{refusedLine}
+use Rattle.answers.specs.Replies.{lineOf}
+use Rattle.table.specs.Call.{callOn}
 use Rattle.table.specs.Answers.{markAfter}
 
 -- bytes that are read at most
@@ -40,11 +41,6 @@ pub record Step : Type 0 where
 
 abbrev pub wrote : List ℕ → State → Step
 wrote t s = record { text = t; next = s }
-
--- the line of a reply
-unfoldable pub lineOf : Reply → List ℕ
-lineOf (ok p m) = okLine p m
-lineOf (refused n) = refusedLine n
 
 -- an instruction, and the place behind it: the one call's answer on the arena left before it
 abbrev pub called : State → Instr → ℕ → Step

@@ -1,12 +1,9 @@
 // A whole script: one instruction after the other in a fresh arena, and a line for each.
-use table::Answer;
 ghost use mathlib.Core.Path.{_≡_};
 ghost use Prim.Native.Nat.{_+_, _≤_};
 ghost use lib.ListN.{length};
 ghost use Rattle.arena.specs.WellFormed.{IsArena};
-ghost use Rattle.codec.specs.Writing.{Puts};
-ghost use Rattle.table.specs.Answers.{replyOf, markAfter};
-ghost use Rattle.script.specs.Script.{lent, lineOf};
+ghost use Rattle.script.specs.Script.{lent};
 ghost use Rattle.script.specs.Running.{room, Stepped, Ready, Walked, Ran};
 
 // Bytes that a script has at most.
@@ -22,27 +19,6 @@ struct Place {
     end: usize,
 }
 
-// The line of an answer.
-fn write_answer(out: &mut [u8], end: usize, answer: Answer) -> usize
-    requires { ⌜ end + 45 ≤ length (now out) ⌝ }
-    ensures { λ r. ⌜ Puts (now (out .entry)) end (lineOf (replyOf answer)) r (now (out .exit)) ⌝ }
-{
-    match answer {
-        Answer::Accepted(position, mark) => answer_lines::write_ok(out, end, position, mark as u64),
-        Answer::Refused(number) => answer_lines::write_refused(out, end, number),
-    }
-}
-
-// The mark that an answer leaves.
-fn next_mark(mark: usize, answer: Answer) -> usize
-    ensures { λ r. ⌜ r ≡ markAfter mark (replyOf answer) ⌝ }
-{
-    match answer {
-        Answer::Accepted(_, next) => next,
-        Answer::Refused(_) => mark,
-    }
-}
-
 // One instruction. Where none can be read, the script stops: no byte is left.
 fn step(bytes: &[u8], cells: &mut [u64], out: &mut [u8], place: Place) -> Place
     requires { ⌜ IsArena (now cells) (place .mark) × (place .end + 45 ≤ length (now out)) ⌝ }
@@ -53,15 +29,15 @@ fn step(bytes: &[u8], cells: &mut [u64], out: &mut [u8], place: Place) -> Place
         return Place {
             at: bytes.len(),
             mark: place.mark,
-            end: answer_lines::write_refused(out, place.end, 10),
+            end: answers::write_refused(out, place.end, 10),
         };
     }
     let instruction = read.instruction;
     let answer = call::call_known(cells, place.mark, instruction);
     Place {
         at: read.next,
-        mark: next_mark(place.mark, answer),
-        end: write_answer(out, place.end, answer),
+        mark: answers::next_mark(place.mark, answer),
+        end: answers::write_answer(out, place.end, answer),
     }
 }
 
@@ -88,7 +64,7 @@ pub fn run(bytes: &[u8], cells: &mut [u64], out: &mut [u8]) -> usize
     ensures { λ r. ⌜ Ran (now (bytes .entry)) (now (cells .entry)) (now (out .entry)) r (now (cells .exit)) (now (out .exit)) ⌝ }
 {
     if bytes.len() > LONGEST {
-        return answer_lines::write_refused(out, 0, 10);
+        return answers::write_refused(out, 0, 10);
     }
     let mark = arena::cells::fresh(cells) as usize;
     walk(bytes, cells, out, mark)

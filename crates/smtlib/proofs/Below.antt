@@ -1,8 +1,7 @@
 -- Every result is a bitvector of its width. Assumes nothing.
-use mathlib.Core.Path.{_≡_, refl, sym, subst}
 use mathlib.Core.Bool.{Bool, true, false, cond, _&&_}
-use Prim.Native.Nat.{ℕ, _+_, _-_, _*_, _/_, _%_, _^_, _≤_, _<_}
-use native.Mathlib.Nat.{mod-lt, mod-le, lt-of-le-of-lt}
+use Prim.Native.Nat.{ℕ, _+_, _-_, _/_, _%_, _^_, _<_}
+use native.Mathlib.Nat.{mod-lt}
 use lib.Pow.{pow-pos, ones-lt}
 use lib.Dec.{eqb}
 use Rattle.smtlib.specs.Theory.{nat2bv, allOnes, bvneg, bvadd, bvmul, bvudiv, bvurem, bvshl, bvlshr}

@@ -1,7 +1,7 @@
 -- A product by halves, column by column, in base P = 2 ^ 32. Assumes nothing.
 use mathlib.Core.Path.{_≡_, refl, sym, ap, _∙_, subst⁻¹}
 use Prim.Native.Nat.{ℕ, _+_, _*_, _/_, _%_, _^_, _≤_, _<_}
-use native.Mathlib.Nat.{add-assoc, add-comm, add-left-comm, mul-assoc, mul-comm, mul-left-comm, mul-add, add-mul, div-add-mod', lt-of-le-of-lt, le-of-lt, mul-le-mul-left, mul-le-mul-right, le-trans, mul-add-mod-self-right, mul-lt-mul-of-pos-right}
+use native.Mathlib.Nat.{add-assoc, add-comm, add-left-comm, mul-assoc, mul-comm, mul-left-comm, mul-add, add-mul, lt-of-le-of-lt, le-of-lt, mul-le-mul-left, mul-le-mul-right, le-trans, mul-add-mod-self-right, mul-lt-mul-of-pos-right}
 use native.Mathlib.Omega.{arith}
 use lib.Pow.{pow-pos, pow-add}
 use Rattle.smtlib.specs.Theory.{nat2bv}

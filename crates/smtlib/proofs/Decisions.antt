@@ -1,7 +1,6 @@
 -- The last arm of each decision on an operation's number. Assumes nothing.
 use mathlib.Core.Path.{_≡_, refl}
 use Prim.Native.Nat.{ℕ}
-use lib.Dec.{eqb}
 use borrow.Author.Tests.{ne-eqb}
 use Rattle.smtlib.specs.Theory.{bvlshr}
 use Rattle.smtlib.specs.Logic.{bvule}

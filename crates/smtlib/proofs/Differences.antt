@@ -3,7 +3,7 @@ use mathlib.Core.Path.{_≡_, sym, ap, _∙_}
 use mathlib.Core.Bool.{Bool, cond}
 use Prim.Native.Nat.{ℕ, zero, suc, _-_, _≤_, _<_}
 use native.Mathlib.Omega.{arith}
-use lib.IntN.{ℤ, pos, negsuc, negℤ, _-ℤ_}
+use lib.IntN.{pos, negsuc, negℤ, _-ℤ_}
 use borrow.Author.Tests.{lt-ltb, le-ltb}
 
 pub sub-ge : (x y : ℕ) → y ≤ x → pos x -ℤ pos y ≡ pos (x - y)

@@ -1,10 +1,9 @@
 -- Quotients, remainders and shifts right need no cut: they are no larger than what they are made of. Assumes nothing.
 use mathlib.Core.Path.{_≡_, sym, ap, _∙_}
 use mathlib.Core.Bool.{Bool, cond}
-use Prim.Native.Nat.{ℕ, _+_, _*_, _/_, _%_, _^_, _≤_, _<_}
+use Prim.Native.Nat.{ℕ, _+_, _/_, _%_, _^_, _≤_, _<_}
 use native.Mathlib.Nat.{mod-eq-of-lt, mod-le, div-le-self, lt-of-le-of-lt, lt-of-lt-of-le, zero-mul, zero-add, le-add-right}
-use lib.Pow.{pow-pos, pow-mono, shr-le}
-use lib.Dec.{eqb}
+use lib.Pow.{pow-mono, shr-le}
 use borrow.Author.Tests.{eq-eqb, ne-eqb}
 use Rattle.smtlib.specs.Theory.{nat2bv, allOnes, concat, bvudiv, bvurem, bvlshr}
 use Rattle.smtlib.specs.Logic.{zeroExtend}

@@ -2,7 +2,7 @@
 use mathlib.Core.Path.{_≡_, refl}
 use mathlib.Core.Bool.{Bool, true, not, _&&_}
 use mathlib.Core.List.{List, [], _∷_}
-use Prim.Native.Nat.{ℕ, _-_, _^_}
+use Prim.Native.Nat.{_-_, _^_}
 use lib.Dec.{eqb}
 use Rattle.smtlib.specs.Theory.{nat2bv, extract, concat, allOnes, bvneg, bvadd, bvudiv, bvurem, bvshl, bvult}
 use Rattle.smtlib.specs.Logic.{top, byTops, byTop, bvsdiv, bvsrem, bvabs, bvsmodOf, bvsmod, bvslt}

@@ -1,11 +1,10 @@
 -- bvneg and bvnot. Assumes nothing.
-use mathlib.Core.Path.{_≡_, refl, sym, ap, _∙_, subst}
-use mathlib.Core.Logic.{_⊎_, inl, inr, ⊎-elim}
-use Prim.Native.Nat.{ℕ, _+_, _-_, _*_, _%_, _^_, _≤_, _<_}
+use mathlib.Core.Path.{_≡_, ap, _∙_}
+use mathlib.Core.Logic.{_⊎_, ⊎-elim}
+use Prim.Native.Nat.{ℕ, _-_, _%_, _^_, _≤_, _<_}
 use native.Mathlib.Nat.{mod-eq-of-lt, mod-self, sub-zero}
 use native.Mathlib.Omega.{arith}
-use lib.Pow.{pow-pos}
-use lib.Bits.{bitAnd, bitXor, and-mask, xor-add-and}
+use lib.Bits.{bitAnd, and-mask, xor-add-and}
 use Rattle.smtlib.specs.Theory.{nat2bv, allOnes, bvnot, bvneg, bvadd}
 use Rattle.smtlib.proofs.Tops.{le-or-lt}
 

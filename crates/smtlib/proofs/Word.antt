@@ -1,7 +1,7 @@
 -- What shifts and masks of a 64-bit word say of its low bits. Assumes nothing.
 use mathlib.Core.Path.{_≡_, sym, ap, _∙_, subst}
 use Prim.Native.Nat.{ℕ, _+_, _-_, _*_, _/_, _%_, _^_, _≤_, _<_}
-use native.Mathlib.Nat.{sub-add-cancel, mul-mod-left, mul-assoc, one-mul, mod-eq-of-lt, div-eq-of-lt, lt-of-lt-of-le, zero-mod}
+use native.Mathlib.Nat.{sub-add-cancel, mul-mod-left, mul-assoc, one-mul, mod-eq-of-lt, div-eq-of-lt, lt-of-lt-of-le}
 use native.Mathlib.Omega.{arith}
 use lib.Pow.{pow-add, pow-mono, pow-lt, ones-split, ones-lt, high, mod-mod-pow}
 

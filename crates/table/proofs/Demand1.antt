@@ -16,7 +16,7 @@ use Rattle.arena.proofs.Padded.{arena-cells}
 use Rattle.instruction.specs.Instruction.{Instr}
 use Rattle.table.specs.Table.{known, row}
 use Rattle.table.specs.Call.{Test, test, firstOf, tests, refusal, ok, refused, Done, done, fitted, build, call, Lent, lent, callOn}
-use Rattle.table.specs.Promises.{refusals, applies, Smallest, Exact}
+use Rattle.table.specs.Promises.{refusals, Smallest, Exact}
 use Rattle.table.proofs.First.{Rising, tests-rise, quiet, quiet-none, smallest, smallest-one, first-found, first-on}
 
 -- the numbers are 1, 2, 2, 3 and so on to 9

@@ -1,6 +1,6 @@
 -- A call on an arena: what is answered and what is left, from the refusal and what is built. Assumes nothing.
 use mathlib.Core.Path.{_≡_, refl, sym, ap, ap₂, _∙_, subst}
-use Prim.Native.Nat.{ℕ, zero, suc, _-_, min, _≤_, _<_}
+use Prim.Native.Nat.{ℕ, zero, suc, _-_, min, _≤_}
 use native.Mathlib.Omega.{arith}
 use mathlib.Core.Bool.{Bool, true, false}
 use mathlib.Core.List.{List}

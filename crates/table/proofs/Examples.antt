@@ -22,7 +22,7 @@ use Rattle.factory.specs.Helpers.{orSome, orNone, eqNone, isNoneIte, isNone, is
 use Rattle.compiler.specs.Compiler.{compiledNot, negUnless, compiledNeg, compiledIsEmpty, gotten, inner, ifAllGiven, recordIfAll, compiledRecord, hasSome, compiledHasAttr, optioned, compiledGetAttr}
 use Rattle.instruction.specs.Instruction.{Instr}
 use Rattle.table.specs.Table.{table, rowOf, known, row}
-use Rattle.table.specs.Call.{Reply, ok, refused, Done, countOk, tooMany, sortOk, sortsOk, operandsOk, firstOf, tests, refusal, fitted, call, callOn}
+use Rattle.table.specs.Call.{Reply, ok, refused, countOk, tooMany, sortOk, sortsOk, operandsOk, firstOf, tests, refusal, fitted, call, callOn}
 
 abbrev instr : ℕ → ℕ → List ℕ → Instr
 instr o p xs = record { op = o; par = p; count = length xs; operands = xs }

@@ -251,10 +251,6 @@ set-free a t e = not-false _ e
 pub ordered : (xs : List ℕ) → not (all small (evens xs) && rising (evens xs)) ≡ false → (all small (evens xs) ≡ true) × (rising (evens xs) ≡ true)
 ordered xs e = let h = not-false _ e in (and-l _ _ h, and-r (all small (evens xs)) _ h)
 
--- 10
-pub bit-of : (p : ℕ) → ltb 1 p ≡ false → p ≤ 1
-bit-of p e = ltb-false 1 p e
-
 -- 11
 pub bv-type : (a : Nodes) (t : ℕ) → not (kindIs a t 2) ≡ false → kindAt a t ≡ 2
 bv-type a t e = eqb-true _ _ (not-false _ e)

@@ -19,7 +19,6 @@ use Rattle.instruction.specs.Instruction.{Instr}
 use Rattle.table.specs.Table.{Shape, fixed, pairs, run, Row, table, rowOf, row}
 use Rattle.table.specs.Senses.{Sense, senses, senseOf}
 use Rattle.table.specs.Call.{countOk, tooMany, Test, test, firstOf, tests, refusal, Reply, ok, refused, build, Lent, callOn}
-use Rattle.table.specs.Answers.{markAfter}
 use Rattle.table.specs.Promises.{refusals, After, Meant, TypeBuilt}
 use Rattle.table.proofs.Fits.{passed, fixed-count}
 use Rattle.table.proofs.Demand1.{Outcome, refuses, builds, outcome, differ}

@@ -1,15 +1,14 @@
 -- What the table says of an operation's number: computed at each number, and so known of every number in a range.
-use mathlib.Core.Path.{_≡_, refl, sym, ap, _∙_, subst}
+use mathlib.Core.Path.{_≡_, refl, sym, _∙_, subst}
 use Prim.Native.Nat.{ℕ, zero, suc, _+_, _≤_, _<_}
 use native.Mathlib.Omega.{arith}
-use mathlib.Core.Bool.{Bool, true, false, not, cond, _&&_, _||_}
+use mathlib.Core.Bool.{Bool, true, false, cond, _&&_, _||_}
 use mathlib.Core.Option.{none}
 use mathlib.Core.List.{List, [], _∷_}
 use lib.ListN.{getD}
 use lib.Dec.{eqb, leb, ltb}
 use mir.Val.{boolByte}
 use borrow.Author.Tests.{ne-eqb, leb-true, leb-false, ltb-true, le-leb, lt-leb}
-use Rattle.arena.specs.Lists.{any}
 use Rattle.arena.specs.Nodes.{Nodes, typeAt}
 use Rattle.arena.proofs.Bools.{t≢f, and-l, and-r, from}
 use Rattle.table.specs.Table.{Shape, fixed, pairs, run, Row, #0, notOf, firstNot, notAlike, notBools, large, largeAttributes, absentAttribute, table, rowOf, known, row}

@@ -3,7 +3,6 @@ use mathlib.Core.Path.{_≡_, sym, ap, _∙_}
 use Prim.Native.Nat.{ℕ}
 use mathlib.Core.List.{List}
 use Rattle.instruction.specs.Instruction.{Instr}
-use Rattle.table.specs.Call.{ok, refused}
 use Rattle.table.specs.Answers.{replyOf, Answered}
 use Rattle.table.specs.declared.Answer.{Answer}
 use Rattle.table.specs.declared.Answer.the-variants.{Accepted, Refused}

@@ -1,6 +1,5 @@
 -- The first test that holds is given: one law for each number, from what the tests answer one after the other.
 use mathlib.Core.Path.{_≡_, sym, ap, ap₂, _∙_}
-use Prim.Native.Nat.{ℕ}
 use mathlib.Core.Bool.{Bool, true, false, not, _&&_, _||_}
 use lib.Dec.{eqb}
 use borrow.Author.Tests.{not-true, not-false}

@@ -10,7 +10,7 @@ use Rattle.arena.specs.Cells.{used, padded}
 use Rattle.arena.specs.WellFormed.{formed, IsArena}
 use Rattle.arena.proofs.Formed.{formed-arena}
 use Rattle.instruction.specs.Instruction.{Instr}
-use Rattle.table.specs.Call.{ok, refused, build, Lent, lent, callOn}
+use Rattle.table.specs.Call.{ok, build, Lent, lent, callOn}
 use Rattle.table.specs.Senses.{Sense, senses, senseOf}
 use Rattle.table.specs.Answers.{replyOf, markAfter, Answered}
 use Rattle.table.specs.Promises.{refusals, applies, Smallest, Exact, After, Meant, TypeBuilt}

@@ -3,7 +3,7 @@ use mathlib.Core.Path.{_≡_}
 use Prim.Native.Nat.{ℕ, _≤_}
 use mathlib.Core.Bool.{Bool, true, false}
 use mathlib.Core.Option.{none, some}
-use mathlib.Core.List.{List, [], _∷_}
+use mathlib.Core.List.{List, _∷_}
 use lib.ListN.{length, replicate}
 use Rattle.arena.specs.Lists.{all, field}
 use Rattle.arena.specs.Nodes.{Nodes}

@@ -15,7 +15,7 @@ use Rattle.instruction.specs.Instruction.{Instr}
 use Rattle.table.specs.Table.{Sort, ty, tm, Shape, fixed, pairs, run, known, row}
 use Rattle.table.specs.Senses.{Sense}
 use Rattle.table.specs.Answers.{markAfter}
-use Rattle.table.specs.Call.{Test, test, tests, Reply, ok, refused, build, Lent, lent, callOn}
+use Rattle.table.specs.Call.{Test, test, tests, ok, refused, build, Lent, lent, callOn}
 
 -- ---- which refusal is given
 

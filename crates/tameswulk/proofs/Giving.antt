@@ -1,6 +1,6 @@
 -- What is told of an answer, and what a call gives by it. Assumes nothing.
 use mathlib.Core.Path.{_≡_, refl, sym, ap, _∙_, subst}
-use Prim.Native.Nat.{ℕ, zero, suc, _≤_, _<_}
+use Prim.Native.Nat.{ℕ, suc, _<_}
 use native.Mathlib.Omega.{arith}
 use mathlib.Core.Bool.{Bool, true, false}
 use mathlib.Core.List.{List, [], _∷_}
@@ -9,7 +9,7 @@ use lib.Dec.{leb}
 use borrow.Author.Tests.{leb-true, leb-false}
 use Rattle.arena.specs.WellFormed.{formed}
 use Rattle.instruction.specs.Instruction.{Instr}
-use Rattle.table.specs.Call.{Reply, refused, Lent, callOn}
+use Rattle.table.specs.Call.{Reply, refused, Lent}
 use Rattle.table.specs.Answers.{replyOf, told, Answered}
 use Rattle.table.specs.declared.Answer.{Answer}
 use Rattle.table.specs.declared.Answer.the-variants.{Accepted, Refused}

@@ -6,12 +6,12 @@ use mathlib.Core.Bool.{Bool, true, false}
 use mathlib.Core.Option.{Option, none, some}
 use mathlib.Core.List.{List}
 use mathlib.Core.Logic.{_⊎_, inl, inr}
-use lib.ListN.{length, getD, take, drop}
+use lib.ListN.{length, getD, drop}
 use lib.Seq.{getD-take, getD-drop}
-use lib.Dec.{eqb, leb, ltb}
+use lib.Dec.{eqb, ltb}
 use borrow.Author.Tests.{eqb-true, eqb-false, leb-true, ltb-true}
 use Rattle.arena.specs.Lists.{all, odds}
-use Rattle.arena.specs.Nodes.{Node, Nodes, mark, nodeAt, kindAt, args, find}
+use Rattle.arena.specs.Nodes.{Node, Nodes, mark, kindAt, args, find}
 use Rattle.arena.specs.Cells.{used, nodeHere, after}
 use Rattle.arena.specs.WellFormed.{goodNode, kindTest, typeTest, makerTest, fieldRun, Below}
 use Rattle.arena.proofs.Bools.{every-all}

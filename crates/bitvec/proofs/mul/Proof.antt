@@ -1,7 +1,7 @@
 -- `bitvec::mul` meets its contract. Assumes nothing.
 use borrow.Author.Needs.{needs}
-use mathlib.Core.Path.{ap, _∙_}
-use Rattle.smtlib.specs.Theory.{nat2bv, bvmul}
+use mathlib.Core.Path.{_∙_}
+use Rattle.smtlib.specs.Theory.{bvmul}
 use Rattle.smtlib.proofs.Columns.{low-word}
 use Rattle.bitvec.proofs.mul.Statement.{statement}
 use Rattle.bitvec.proofs.mul.Tie as tie

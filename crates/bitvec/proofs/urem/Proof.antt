@@ -1,6 +1,6 @@
 -- `bitvec::urem` meets its contract. Assumes nothing.
 use borrow.Author.Needs.{needs}
-use mathlib.Core.Path.{sym, _∙_}
+use mathlib.Core.Path.{sym}
 use Rattle.smtlib.proofs.Division.{urem-zero, urem-some}
 use Rattle.bitvec.proofs.urem.Statement.{statement}
 use Rattle.bitvec.proofs.urem.Tie as tie

@@ -1,6 +1,6 @@
 -- `bitvec::zero_extend` meets its contract. Assumes nothing.
 use borrow.Author.Needs.{needs}
-use mathlib.Core.Path.{sym, _∙_}
+use mathlib.Core.Path.{_∙_}
 use Rattle.smtlib.proofs.Division.{extended}
 use Rattle.bitvec.proofs.zero_extend.Statement.{statement}
 use Rattle.bitvec.proofs.zero_extend.Tie as tie

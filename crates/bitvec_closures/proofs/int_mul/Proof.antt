@@ -1,6 +1,6 @@
 -- `bitvec_closures::int_mul` meets its contract. Assumes nothing.
 use borrow.Author.Needs.{needs}
-use mathlib.Core.Path.{_≡_, ap, ap₂, sym, _∙_}
+use mathlib.Core.Path.{ap, ap₂, sym, _∙_}
 use mathlib.Core.Bool.{not, Bool·beq}
 use lib.IntN.{_*ℤ_}
 use Rattle.bitvec_closures.specs.Int.{signed}

@@ -1,6 +1,6 @@
 -- `arena::cells::kind_from` meets its contract. Assumes nothing.
 use mathlib.Core.Logic.{⊎-elim}
-use mathlib.Core.Path.{_≡_, sym, subst}
+use mathlib.Core.Path.{sym, subst}
 use Prim.Native.Nat.{ℕ, _≤_, _-_}
 use native.Mathlib.Omega.{arith}
 use Rattle.arena.proofs.Ext.{kind-known}

@@ -1,8 +1,8 @@
--- `answer_lines::write_field` meets its contract. Assumes nothing.
-use Rattle.answer_lines.proofs.Answers.{puts-field}
+-- `answers::write_field` meets its contract. Assumes nothing.
+use Rattle.answers.proofs.Answers.{puts-field}
 use borrow.Author.Needs.{needs}
-use Rattle.answer_lines.proofs.write_field.Statement.{statement}
-use Rattle.answer_lines.proofs.write_field.Tie as tie
+use Rattle.answers.proofs.write_field.Statement.{statement}
+use Rattle.answers.proofs.write_field.Tie as tie
 
 write-bytes-requires : tie.Need-write-bytes-requires
 write-bytes-requires c κs = search needs

@@ -1,10 +1,10 @@
--- `answer_lines::write_ok` meets its contract. Assumes nothing.
+-- `answers::write_ok` meets its contract. Assumes nothing.
 use native.Mathlib.Omega.{arith}
-use Rattle.answer_lines.specs.Lines.{ok, space}
-use Rattle.answer_lines.proofs.Answers.{field-most, puts-ok}
+use Rattle.answers.specs.Lines.{ok, space}
+use Rattle.answers.proofs.Answers.{field-most, puts-ok}
 use borrow.Author.Needs.{needs}
-use Rattle.answer_lines.proofs.write_ok.Statement.{statement}
-use Rattle.answer_lines.proofs.write_ok.Tie as tie
+use Rattle.answers.proofs.write_ok.Statement.{statement}
+use Rattle.answers.proofs.write_ok.Tie as tie
 
 slice-aggregate-write-field : tie.Need-slice-aggregate-write-field
 slice-aggregate-write-field c = search needs

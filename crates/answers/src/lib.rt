@@ -1,8 +1,12 @@
-// The lines that answer a script, as bytes: fixed byte strings and decimal numbers.
+// What an answer says: its line as bytes, fixed byte strings and decimal numbers, and the mark that it leaves.
+use table::Answer;
+ghost use mathlib.Core.Path.{_≡_};
 ghost use Prim.Native.Nat.{_+_, _≤_};
 ghost use lib.ListN.{length};
 ghost use Rattle.codec.specs.Writing.{Puts};
-ghost use Rattle.answer_lines.specs.Lines.{decimal, field, okLine, refusedLine};
+ghost use Rattle.table.specs.Answers.{replyOf, markAfter};
+ghost use Rattle.answers.specs.Lines.{decimal, field, okLine, refusedLine};
+ghost use Rattle.answers.specs.Replies.{lineOf};
 
 // Bytes at a place.
 fn write_bytes(out: &mut [u8], at: usize, bytes: &[u8]) -> usize
@@ -60,4 +64,25 @@ pub fn write_refused(out: &mut [u8], at: usize, number: u64) -> usize
 {
     let a = write_field(out, at, b"refused ", number);
     write_bytes(out, a, b"\n")
+}
+
+// The line of an answer.
+pub fn write_answer(out: &mut [u8], end: usize, answer: Answer) -> usize
+    requires { ⌜ end + 45 ≤ length (now out) ⌝ }
+    ensures { λ r. ⌜ Puts (now (out .entry)) end (lineOf (replyOf answer)) r (now (out .exit)) ⌝ }
+{
+    match answer {
+        Answer::Accepted(position, mark) => write_ok(out, end, position, mark as u64),
+        Answer::Refused(number) => write_refused(out, end, number),
+    }
+}
+
+// The mark that an answer leaves.
+pub fn next_mark(mark: usize, answer: Answer) -> usize
+    ensures { λ r. ⌜ r ≡ markAfter mark (replyOf answer) ⌝ }
+{
+    match answer {
+        Answer::Accepted(_, next) => next,
+        Answer::Refused(_) => mark,
+    }
 }

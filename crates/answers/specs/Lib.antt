@@ -1,2 +1,3 @@
 -- The lines that answer a script.
 pub mod Lines
+pub mod Replies

@@ -1,4 +1,4 @@
--- `answer_lines::write_decimal` meets its contract: the digits that are left, stored from the start, give the whole. Assumes nothing.
+-- `answers::write_decimal` meets its contract: the digits that are left, stored from the start, give the whole. Assumes nothing.
 use borrow.Author.Needs.{needs}
 use mathlib.Core.Path.{_≡_, refl, _∙_}
 use Prim.Native.Nat.{_+_, _%_, _/_, _<_}
@@ -6,12 +6,12 @@ use native.Mathlib.Omega.{arith}
 use lib.ListN.{length, length-set}
 use lib.Seq.{sets}
 use Rattle.codec.specs.Digits.{digits}
-use Rattle.answer_lines.specs.Lines.{decimal}
+use Rattle.answers.specs.Lines.{decimal}
 use Rattle.codec.proofs.Digits.{digits-some}
-use Rattle.answer_lines.proofs.Turns.{length-decimal, decimal-most, digit-more, digit-end}
+use Rattle.answers.proofs.Turns.{length-decimal, decimal-most, digit-more, digit-end}
 use Rattle.codec.proofs.Putting.{sets-puts}
-use Rattle.answer_lines.proofs.write_decimal.Statement.{statement}
-use Rattle.answer_lines.proofs.write_decimal.Tie as tie
+use Rattle.answers.proofs.write_decimal.Statement.{statement}
+use Rattle.answers.proofs.write_decimal.Tie as tie
 
 abbrev Inv-loop : tie.InvT-loop
 Inv-loop out₀ at n end last₀ rest₀ out last rest =

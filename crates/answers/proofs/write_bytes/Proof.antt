@@ -1,4 +1,4 @@
--- `answer_lines::write_bytes` meets its contract: the bytes that are left, stored from the next place on, give the whole. Assumes nothing.
+-- `answers::write_bytes` meets its contract: the bytes that are left, stored from the next place on, give the whole. Assumes nothing.
 use borrow.Author.Needs.{needs}
 use mathlib.Core.Path.{_≡_, refl, _∙_}
 use native.Mathlib.Nat.{add-zero}
@@ -6,10 +6,10 @@ use native.Mathlib.Omega.{arith}
 use Prim.Native.Nat.{_+_, _-_, _≤_}
 use lib.ListN.{length, getD, drop, length-set}
 use lib.Seq.{sets}
-use Rattle.answer_lines.proofs.Turns.{byte-more, byte-end}
+use Rattle.answers.proofs.Turns.{byte-more, byte-end}
 use Rattle.codec.proofs.Putting.{sets-puts}
-use Rattle.answer_lines.proofs.write_bytes.Statement.{statement}
-use Rattle.answer_lines.proofs.write_bytes.Tie as tie
+use Rattle.answers.proofs.write_bytes.Statement.{statement}
+use Rattle.answers.proofs.write_bytes.Tie as tie
 
 abbrev Inv-loop : tie.InvT-loop
 Inv-loop out₀ at bytes i₀ out i =

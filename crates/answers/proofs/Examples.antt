@@ -3,10 +3,9 @@ use mathlib.Core.Path.{_≡_, refl}
 use mathlib.Core.Bool.{Bool, true, _&&_}
 use mathlib.Core.List.{List, [], _∷_}
 use Prim.Native.Nat.{_-_, _^_}
-use lib.Dec.{eqb}
 use Rattle.codec.specs.Digits.{digitsIn, digits}
 use Rattle.codec.specs.Numbers.{same}
-use Rattle.answer_lines.specs.Lines.{text, decimal, field, okLine, refusedLine}
+use Rattle.answers.specs.Lines.{text, decimal, field, okLine, refusedLine}
 
 abbrev every : List Bool → Bool
 every [] = true

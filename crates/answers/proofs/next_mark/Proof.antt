@@ -1,10 +1,10 @@
--- `script::next_mark` meets its contract. Assumes nothing.
+-- `answers::next_mark` meets its contract. Assumes nothing.
 use borrow.Author.Needs.{needs}
 use mathlib.Core.Path.{sym, ap}
 use Rattle.table.specs.Answers.{replyOf, markAfter}
 use Rattle.table.specs.declared.Answer.{Answer}
-use Rattle.script.proofs.next_mark.Statement.{statement}
-use Rattle.script.proofs.next_mark.Tie as tie
+use Rattle.answers.proofs.next_mark.Statement.{statement}
+use Rattle.answers.proofs.next_mark.Tie as tie
 
 enum-known-answer : tie.Need-enum-known-answer
 enum-known-answer c = search needs

@@ -9,7 +9,7 @@ use lib.Seq.{sets, drop-cons, drop-length}
 use Rattle.codec.specs.Digits.{digits}
 use Rattle.codec.proofs.Digits.{digits-small, digits-more, digits-most}
 use Rattle.codec.proofs.Putting.{sets-last}
-use Rattle.answer_lines.specs.Lines.{text, decimal}
+use Rattle.answers.specs.Lines.{text, decimal}
 
 -- storing decimal digits, the last one first
 length-text : (ds : List ℕ) → length (text ds) ≡ length ds

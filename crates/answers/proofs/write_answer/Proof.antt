@@ -1,8 +1,8 @@
--- `script::write_answer` meets its contract. Assumes nothing.
+-- `answers::write_answer` meets its contract. Assumes nothing.
 use borrow.Author.Needs.{needs}
-use Rattle.script.proofs.Going.{line-accepted, line-refused}
-use Rattle.script.proofs.write_answer.Statement.{statement}
-use Rattle.script.proofs.write_answer.Tie as tie
+use Rattle.answers.proofs.Said.{line-accepted, line-refused}
+use Rattle.answers.proofs.write_answer.Statement.{statement}
+use Rattle.answers.proofs.write_answer.Tie as tie
 
 enum-known-answer : tie.Need-enum-known-answer
 enum-known-answer c = search needs
