@@ -1,12 +1,11 @@
-// The whole dispatcher: the compiled operators by number, and then every operation.
-use arena::TermPos;
+// The whole dispatcher: every operation by number.
+use compiled::build_compiled;
 use dispatch::build_bitvector;
 use dispatch::build_core;
 use dispatch::build_data;
 use dispatch::build_helper;
 use dispatch::build_maker;
 use dispatch::build_type;
-use dispatch::operand;
 use nodes::Cursor;
 use nodes::NodeStep;
 use nodes::TermStep;
@@ -17,23 +16,6 @@ ghost use Rattle.nodes.specs.Replies.{termReply, nodeReply};
 ghost use Rattle.factory.specs.Fit.{Ready};
 ghost use Rattle.table.specs.Table.{row};
 ghost use Rattle.table.specs.Forms.{Passes};
-
-// Compiled: 70 to 75.
-fn build_compiled(cells: &mut [u64], cursor: Cursor, op: u64, par: u64, xs: &[u64]) -> TermStep
-    requires { ⌜ Ready (λ a. Passes a op par (now xs)) (now cells) (cursor .mark) ⌝ }
-    requires { ⌜ 70 ≤ op × op ≤ 75 ⌝ }
-    ensures { λ r. ⌜ Did (λ a. row op .build a par (now (xs .entry))) (now (cells .entry)) (cursor .mark) (termReply r) (now (cells .exit)) ⌝ }
-{
-    let x = TermPos(operand(xs, 0));
-    match op {
-        70 => compiled::compile_not(cells, cursor, x),
-        71 => compiled::compile_neg(cells, cursor, x),
-        72 => compiled::compile_is_empty(cells, cursor, x),
-        73 => compiled::compile_record(cells, cursor, xs),
-        74 => compiled::compile_has_attr(cells, cursor, par, x),
-        _ => compiled::compile_get_attr(cells, cursor, par, x),
-    }
-}
 
 // A term: 10 to 75.
 fn build_term(cells: &mut [u64], cursor: Cursor, op: u64, par: u64, xs: &[u64]) -> TermStep

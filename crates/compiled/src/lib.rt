@@ -19,6 +19,7 @@ use factory_makers::record_of;
 use factory_makers::some_of;
 use nodes::Cursor;
 use nodes::TermStep;
+use runs::nth;
 ghost use mathlib.Core.Path.{_≡_};
 ghost use mathlib.Core.Bool.{true};
 ghost use Prim.Native.Nat.{_*_, _%_, _≤_};
@@ -35,6 +36,8 @@ ghost use Rattle.factory.specs.Fit.{Typed, OfKind, Options, Ready};
 ghost use Rattle.factory.specs.SetSteps.{recordGet};
 ghost use Rattle.compiler.specs.Compiler.{compiledNot, negUnless, compiledNeg, compiledIsEmpty, gotten, inner as innerOf, ifAllGiven, recordIfAll, compiledRecord, fieldsAt, hasField, hasSome, compiledHasAttr, optioned as optionedBy, compiledGetAttr};
 ghost use Rattle.compiler.specs.Buffers.{fieldsReply, HoldsInner, HasField, OptionalField};
+ghost use Rattle.table.specs.Table.{row};
+ghost use Rattle.table.specs.Forms.{Passes};
 
 const FALSE: TermPos = TermPos(4);
 
@@ -242,5 +245,22 @@ pub fn compile_get_attr(cells: &mut [u64], cursor: Cursor, k: u64, t: TermPos) -
     match record_get(cells, cursor, k, t) {
         TermStep::At(next, p) => optioned(cells, next, option, p),
         TermStep::Full => TermStep::Full,
+    }
+}
+
+// Operations 70 to 75 by number.
+pub fn build_compiled(cells: &mut [u64], cursor: Cursor, op: u64, par: u64, xs: &[u64]) -> TermStep
+    requires { ⌜ Ready (λ a. Passes a op par (now xs)) (now cells) (cursor .mark) ⌝ }
+    requires { ⌜ 70 ≤ op × op ≤ 75 ⌝ }
+    ensures { λ r. ⌜ Did (λ a. row op .build a par (now (xs .entry))) (now (cells .entry)) (cursor .mark) (termReply r) (now (cells .exit)) ⌝ }
+{
+    let x = TermPos(nth(xs, 0));
+    match op {
+        70 => compile_not(cells, cursor, x),
+        71 => compile_neg(cells, cursor, x),
+        72 => compile_is_empty(cells, cursor, x),
+        73 => compile_record(cells, cursor, xs),
+        74 => compile_has_attr(cells, cursor, par, x),
+        _ => compile_get_attr(cells, cursor, par, x),
     }
 }

@@ -5,21 +5,15 @@ use bitvec::Width;
 use nodes::Cursor;
 use nodes::TermStep;
 use nodes::TypeStep;
+use runs::nth;
 ghost use mathlib.Core.Path.{_≡_};
 ghost use Prim.Native.Nat.{_≤_};
-ghost use lib.ListN.{getD, drop};
+ghost use lib.ListN.{drop};
 ghost use Rattle.arena.specs.Did.{Did};
 ghost use Rattle.nodes.specs.Replies.{termReply, typeReply};
 ghost use Rattle.factory.specs.Fit.{Ready};
 ghost use Rattle.table.specs.Table.{row};
 ghost use Rattle.table.specs.Forms.{Passes};
-
-// Operand i, 0 past their end.
-pub fn operand(xs: &[u64], i: usize) -> u64
-    ensures { λ r. ⌜ r ≡ getD (now (xs .entry)) i 0 ⌝ }
-{
-    if i < xs.len() { xs[i] } else { 0 }
-}
 
 // The operands after the first.
 pub fn rest(xs: &[u64]) -> &[u64]
@@ -37,7 +31,7 @@ pub fn build_type(cells: &mut [u64], cursor: Cursor, op: u64, par: u64, xs: &[u6
     requires { ⌜ 1 ≤ op × op ≤ 5 ⌝ }
     ensures { λ r. ⌜ Did (λ a. row op .build a par (now (xs .entry))) (now (cells .entry)) (cursor .mark) (typeReply r) (now (cells .exit)) ⌝ }
 {
-    let ty = TypePos(operand(xs, 0));
+    let ty = TypePos(nth(xs, 0));
     let none = [0u64; 1];
     match op {
         1 => cursor.type_node(cells, 1, 0, &none[..0]),
@@ -54,7 +48,7 @@ pub fn build_maker(cells: &mut [u64], cursor: Cursor, op: u64, par: u64, xs: &[u
     requires { ⌜ 10 ≤ op × op ≤ 16 ⌝ }
     ensures { λ r. ⌜ Did (λ a. row op .build a par (now (xs .entry))) (now (cells .entry)) (cursor .mark) (termReply r) (now (cells .exit)) ⌝ }
 {
-    let x = operand(xs, 0);
+    let x = nth(xs, 0);
     match op {
         10 => TermStep::At(cursor, factory_makers::bool_at(par == 1)),
         11 => factory_makers::bitvec_lit(cells, cursor, TypePos(x), par),
@@ -72,15 +66,15 @@ pub fn build_core(cells: &mut [u64], cursor: Cursor, op: u64, par: u64, xs: &[u6
     requires { ⌜ 20 ≤ op × op ≤ 26 ⌝ }
     ensures { λ r. ⌜ Did (λ a. row op .build a par (now (xs .entry))) (now (cells .entry)) (cursor .mark) (termReply r) (now (cells .exit)) ⌝ }
 {
-    let x = operand(xs, 0);
-    let y = TermPos(operand(xs, 1));
+    let x = nth(xs, 0);
+    let y = TermPos(nth(xs, 1));
     match op {
         20 => factory_core::not(cells, cursor, TermPos(x)),
         21 => factory_core::and(cells, cursor, TermPos(x), y),
         22 => factory_core::or(cells, cursor, TermPos(x), y),
         23 => factory_core::implies(cells, cursor, TermPos(x), y),
         24 => factory_core::eq(cells, cursor, TermPos(x), y),
-        25 => factory_core::ite(cells, cursor, TermPos(x), y, TermPos(operand(xs, 2))),
+        25 => factory_core::ite(cells, cursor, TermPos(x), y, TermPos(nth(xs, 2))),
         _ => factory_makers::uninterpreted(cells, cursor, par, TypePos(x), y),
     }
 }
@@ -91,8 +85,8 @@ pub fn build_bitvector(cells: &mut [u64], cursor: Cursor, op: u64, par: u64, xs:
     requires { ⌜ 30 ≤ op × op ≤ 49 ⌝ }
     ensures { λ r. ⌜ Did (λ a. row op .build a par (now (xs .entry))) (now (cells .entry)) (cursor .mark) (termReply r) (now (cells .exit)) ⌝ }
 {
-    let x = TermPos(operand(xs, 0));
-    let y = TermPos(operand(xs, 1));
+    let x = TermPos(nth(xs, 0));
+    let y = TermPos(nth(xs, 1));
     if op <= 30 {
         return factory_bitvectors::bvneg(cells, cursor, x);
     }
@@ -117,8 +111,8 @@ pub fn build_data(cells: &mut [u64], cursor: Cursor, op: u64, par: u64, xs: &[u6
     requires { ⌜ 50 ≤ op × op ≤ 56 ⌝ }
     ensures { λ r. ⌜ Did (λ a. row op .build a par (now (xs .entry))) (now (cells .entry)) (cursor .mark) (termReply r) (now (cells .exit)) ⌝ }
 {
-    let x = TermPos(operand(xs, 0));
-    let y = TermPos(operand(xs, 1));
+    let x = TermPos(nth(xs, 0));
+    let y = TermPos(nth(xs, 1));
     match op {
         50 => factory_data::set_member(cells, cursor, x, y),
         51 => factory_data::set_subset(cells, cursor, x, y),
@@ -136,8 +130,8 @@ pub fn build_helper(cells: &mut [u64], cursor: Cursor, op: u64, par: u64, xs: &[
     requires { ⌜ 60 ≤ op × op ≤ 66 ⌝ }
     ensures { λ r. ⌜ Did (λ a. row op .build a par (now (xs .entry))) (now (cells .entry)) (cursor .mark) (termReply r) (now (cells .exit)) ⌝ }
 {
-    let x = TermPos(operand(xs, 0));
-    let y = TermPos(operand(xs, 1));
+    let x = TermPos(nth(xs, 0));
+    let y = TermPos(nth(xs, 1));
     match op {
         60 => factory_helpers::is_none(cells, cursor, x),
         61 => factory_helpers::is_some(cells, cursor, x),

@@ -11,11 +11,11 @@ use borrow.Author.Needs.{needs}
 use Rattle.dispatch.proofs.build_core.Statement.{statement}
 use Rattle.dispatch.proofs.build_core.Tie as tie
 
-operand-requires : tie.Need-operand-requires
-operand-requires c κs = search needs
+nth-requires : tie.Need-nth-requires
+nth-requires c κs = search needs
 
-operand-requires-2 : tie.Need-operand-requires-2
-operand-requires-2 c κs = search needs
+nth-requires-2 : tie.Need-nth-requires-2
+nth-requires-2 c κs = search needs
 
 not-requires : tie.Need-not-requires
 unfolding row rowOf table
@@ -23,7 +23,7 @@ not-requires c κs =
     let s = c .before .before .before .before .before .before .pre .0 in
     let w = ready-wf s in
     let P = passed-at (used (c .before .before .before .before .before .before .args .cells .now) (c .before .before .before .before .before .before .args .cursor .mark)) (c .before .before .before .before .before .before .args .op) (c .before .before .before .before .before .before .args .par) (c .before .before .before .before .before .before .args .xs .now) 20 (c .before .match .keys1) (s .fit) in
-    record { arena = s .arena; fit = rw (c .before .before .before .operand .ensures) (one-bool (used (c .before .before .before .before .before .before .args .cells .now) (c .before .before .before .before .before .before .args .cursor .mark)) (c .before .before .before .before .before .before .args .xs .now) w (P .sorts) (P .five)) }
+    record { arena = s .arena; fit = rw (c .before .before .before .nth .ensures) (one-bool (used (c .before .before .before .before .before .before .args .cells .now) (c .before .before .before .before .before .before .args .cursor .mark)) (c .before .before .before .before .before .before .args .xs .now) w (P .sorts) (P .five)) }
 
 and-requires : tie.Need-and-requires
 unfolding row rowOf table
@@ -31,7 +31,7 @@ and-requires c κs =
     let s = c .before .before .before .before .before .before .pre .0 in
     let w = ready-wf s in
     let P = passed-at (used (c .before .before .before .before .before .before .args .cells .now) (c .before .before .before .before .before .before .args .cursor .mark)) (c .before .before .before .before .before .before .args .op) (c .before .before .before .before .before .before .args .par) (c .before .before .before .before .before .before .args .xs .now) 21 (c .before .match .keys2) (s .fit) in
-    record { arena = s .arena; fit = rw (c .before .before .before .operand .ensures, c .before .before .operand2 .ensures) (two-bools (used (c .before .before .before .before .before .before .args .cells .now) (c .before .before .before .before .before .before .args .cursor .mark)) (c .before .before .before .before .before .before .args .xs .now) w (P .sorts) (P .five)) }
+    record { arena = s .arena; fit = rw (c .before .before .before .nth .ensures, c .before .before .nth2 .ensures) (two-bools (used (c .before .before .before .before .before .before .args .cells .now) (c .before .before .before .before .before .before .args .cursor .mark)) (c .before .before .before .before .before .before .args .xs .now) w (P .sorts) (P .five)) }
 
 or-requires : tie.Need-or-requires
 unfolding row rowOf table
@@ -39,7 +39,7 @@ or-requires c κs =
     let s = c .before .before .before .before .before .before .pre .0 in
     let w = ready-wf s in
     let P = passed-at (used (c .before .before .before .before .before .before .args .cells .now) (c .before .before .before .before .before .before .args .cursor .mark)) (c .before .before .before .before .before .before .args .op) (c .before .before .before .before .before .before .args .par) (c .before .before .before .before .before .before .args .xs .now) 22 (c .before .match .keys3) (s .fit) in
-    record { arena = s .arena; fit = rw (c .before .before .before .operand .ensures, c .before .before .operand2 .ensures) (two-bools (used (c .before .before .before .before .before .before .args .cells .now) (c .before .before .before .before .before .before .args .cursor .mark)) (c .before .before .before .before .before .before .args .xs .now) w (P .sorts) (P .five)) }
+    record { arena = s .arena; fit = rw (c .before .before .before .nth .ensures, c .before .before .nth2 .ensures) (two-bools (used (c .before .before .before .before .before .before .args .cells .now) (c .before .before .before .before .before .before .args .cursor .mark)) (c .before .before .before .before .before .before .args .xs .now) w (P .sorts) (P .five)) }
 
 implies-requires : tie.Need-implies-requires
 unfolding row rowOf table
@@ -47,7 +47,7 @@ implies-requires c κs =
     let s = c .before .before .before .before .before .before .pre .0 in
     let w = ready-wf s in
     let P = passed-at (used (c .before .before .before .before .before .before .args .cells .now) (c .before .before .before .before .before .before .args .cursor .mark)) (c .before .before .before .before .before .before .args .op) (c .before .before .before .before .before .before .args .par) (c .before .before .before .before .before .before .args .xs .now) 23 (c .before .match .keys4) (s .fit) in
-    record { arena = s .arena; fit = rw (c .before .before .before .operand .ensures, c .before .before .operand2 .ensures) (two-bools (used (c .before .before .before .before .before .before .args .cells .now) (c .before .before .before .before .before .before .args .cursor .mark)) (c .before .before .before .before .before .before .args .xs .now) w (P .sorts) (P .five)) }
+    record { arena = s .arena; fit = rw (c .before .before .before .nth .ensures, c .before .before .nth2 .ensures) (two-bools (used (c .before .before .before .before .before .before .args .cells .now) (c .before .before .before .before .before .before .args .cursor .mark)) (c .before .before .before .before .before .before .args .xs .now) w (P .sorts) (P .five)) }
 
 eq-requires : tie.Need-eq-requires
 unfolding row rowOf table
@@ -55,10 +55,10 @@ eq-requires c κs =
     let s = c .before .before .before .before .before .before .pre .0 in
     let w = ready-wf s in
     let P = passed-at (used (c .before .before .before .before .before .before .args .cells .now) (c .before .before .before .before .before .before .args .cursor .mark)) (c .before .before .before .before .before .before .args .op) (c .before .before .before .before .before .before .args .par) (c .before .before .before .before .before .before .args .xs .now) 24 (c .before .match .keys5) (s .fit) in
-    record { arena = s .arena; fit = rw (c .before .before .before .operand .ensures, c .before .before .operand2 .ensures) (two-alike (used (c .before .before .before .before .before .before .args .cells .now) (c .before .before .before .before .before .before .args .cursor .mark)) (c .before .before .before .before .before .before .args .xs .now) (P .sorts) (P .five)) }
+    record { arena = s .arena; fit = rw (c .before .before .before .nth .ensures, c .before .before .nth2 .ensures) (two-alike (used (c .before .before .before .before .before .before .args .cells .now) (c .before .before .before .before .before .before .args .cursor .mark)) (c .before .before .before .before .before .before .args .xs .now) (P .sorts) (P .five)) }
 
-operand-requires-3 : tie.Need-operand-requires-3
-operand-requires-3 c κs = search needs
+nth-requires-3 : tie.Need-nth-requires-3
+nth-requires-3 c κs = search needs
 
 ite-requires : tie.Need-ite-requires
 unfolding row rowOf table
@@ -66,7 +66,7 @@ ite-requires c κs =
     let s = c .before .before .before .before .before .before .before .pre .0 in
     let w = ready-wf s in
     let P = passed-at (used (c .before .before .before .before .before .before .before .args .cells .now) (c .before .before .before .before .before .before .before .args .cursor .mark)) (c .before .before .before .before .before .before .before .args .op) (c .before .before .before .before .before .before .before .args .par) (c .before .before .before .before .before .before .before .args .xs .now) 25 (c .before .before .match .keys6) (s .fit) in
-    record { arena = s .arena; fit = rw (c .before .before .before .before .operand .ensures, c .before .before .before .operand2 .ensures, c .operand3 .ensures) (choice-of (used (c .before .before .before .before .before .before .before .args .cells .now) (c .before .before .before .before .before .before .before .args .cursor .mark)) (c .before .before .before .before .before .before .before .args .xs .now) w (P .sorts) (P .five)) }
+    record { arena = s .arena; fit = rw (c .before .before .before .before .nth .ensures, c .before .before .before .nth2 .ensures, c .nth3 .ensures) (choice-of (used (c .before .before .before .before .before .before .before .args .cells .now) (c .before .before .before .before .before .before .before .args .cursor .mark)) (c .before .before .before .before .before .before .before .args .xs .now) w (P .sorts) (P .five)) }
 
 uninterpreted-requires : tie.Need-uninterpreted-requires
 unfolding row rowOf table
@@ -77,62 +77,62 @@ same-length c = search needs
 
 returns : tie.Need-returns
 unfolding row rowOf table
-returns c = picked (c .before .before .not .ensures) (build-at (used (c .before .before .before .before .before .before .before .before .before .args .cells .now) (c .before .before .before .before .before .before .before .before .before .args .cursor .mark)) (c .before .before .before .before .before .before .before .before .before .args .op) (c .before .before .before .before .before .before .before .before .before .args .par) (c .before .before .before .before .before .before .before .before .before .args .xs .now) 20 (c .before .before .before .before .match .keys1) ∙ rw (c .before .before .before .before .before .before .operand .ensures))
+returns c = picked (c .before .before .not .ensures) (build-at (used (c .before .before .before .before .before .before .before .before .before .args .cells .now) (c .before .before .before .before .before .before .before .before .before .args .cursor .mark)) (c .before .before .before .before .before .before .before .before .before .args .op) (c .before .before .before .before .before .before .before .before .before .args .par) (c .before .before .before .before .before .before .before .before .before .args .xs .now) 20 (c .before .before .before .before .match .keys1) ∙ rw (c .before .before .before .before .before .before .nth .ensures))
 
 same-length-2 : tie.Need-same-length-2
 same-length-2 c = search needs
 
 returns-2 : tie.Need-returns-2
 unfolding row rowOf table
-returns-2 c = picked (c .before .before .and .ensures) (build-at (used (c .before .before .before .before .before .before .before .before .before .args .cells .now) (c .before .before .before .before .before .before .before .before .before .args .cursor .mark)) (c .before .before .before .before .before .before .before .before .before .args .op) (c .before .before .before .before .before .before .before .before .before .args .par) (c .before .before .before .before .before .before .before .before .before .args .xs .now) 21 (c .before .before .before .before .match .keys2) ∙ rw (c .before .before .before .before .before .before .operand .ensures, c .before .before .before .before .before .operand2 .ensures))
+returns-2 c = picked (c .before .before .and .ensures) (build-at (used (c .before .before .before .before .before .before .before .before .before .args .cells .now) (c .before .before .before .before .before .before .before .before .before .args .cursor .mark)) (c .before .before .before .before .before .before .before .before .before .args .op) (c .before .before .before .before .before .before .before .before .before .args .par) (c .before .before .before .before .before .before .before .before .before .args .xs .now) 21 (c .before .before .before .before .match .keys2) ∙ rw (c .before .before .before .before .before .before .nth .ensures, c .before .before .before .before .before .nth2 .ensures))
 
 same-length-3 : tie.Need-same-length-3
 same-length-3 c = search needs
 
 returns-3 : tie.Need-returns-3
 unfolding row rowOf table
-returns-3 c = picked (c .before .before .or .ensures) (build-at (used (c .before .before .before .before .before .before .before .before .before .args .cells .now) (c .before .before .before .before .before .before .before .before .before .args .cursor .mark)) (c .before .before .before .before .before .before .before .before .before .args .op) (c .before .before .before .before .before .before .before .before .before .args .par) (c .before .before .before .before .before .before .before .before .before .args .xs .now) 22 (c .before .before .before .before .match .keys3) ∙ rw (c .before .before .before .before .before .before .operand .ensures, c .before .before .before .before .before .operand2 .ensures))
+returns-3 c = picked (c .before .before .or .ensures) (build-at (used (c .before .before .before .before .before .before .before .before .before .args .cells .now) (c .before .before .before .before .before .before .before .before .before .args .cursor .mark)) (c .before .before .before .before .before .before .before .before .before .args .op) (c .before .before .before .before .before .before .before .before .before .args .par) (c .before .before .before .before .before .before .before .before .before .args .xs .now) 22 (c .before .before .before .before .match .keys3) ∙ rw (c .before .before .before .before .before .before .nth .ensures, c .before .before .before .before .before .nth2 .ensures))
 
 same-length-4 : tie.Need-same-length-4
 same-length-4 c = search needs
 
 returns-4 : tie.Need-returns-4
 unfolding row rowOf table
-returns-4 c = picked (c .before .before .implies .ensures) (build-at (used (c .before .before .before .before .before .before .before .before .before .args .cells .now) (c .before .before .before .before .before .before .before .before .before .args .cursor .mark)) (c .before .before .before .before .before .before .before .before .before .args .op) (c .before .before .before .before .before .before .before .before .before .args .par) (c .before .before .before .before .before .before .before .before .before .args .xs .now) 23 (c .before .before .before .before .match .keys4) ∙ rw (c .before .before .before .before .before .before .operand .ensures, c .before .before .before .before .before .operand2 .ensures))
+returns-4 c = picked (c .before .before .implies .ensures) (build-at (used (c .before .before .before .before .before .before .before .before .before .args .cells .now) (c .before .before .before .before .before .before .before .before .before .args .cursor .mark)) (c .before .before .before .before .before .before .before .before .before .args .op) (c .before .before .before .before .before .before .before .before .before .args .par) (c .before .before .before .before .before .before .before .before .before .args .xs .now) 23 (c .before .before .before .before .match .keys4) ∙ rw (c .before .before .before .before .before .before .nth .ensures, c .before .before .before .before .before .nth2 .ensures))
 
 same-length-5 : tie.Need-same-length-5
 same-length-5 c = search needs
 
 returns-5 : tie.Need-returns-5
 unfolding row rowOf table
-returns-5 c = picked (c .before .before .eq .ensures) (build-at (used (c .before .before .before .before .before .before .before .before .before .args .cells .now) (c .before .before .before .before .before .before .before .before .before .args .cursor .mark)) (c .before .before .before .before .before .before .before .before .before .args .op) (c .before .before .before .before .before .before .before .before .before .args .par) (c .before .before .before .before .before .before .before .before .before .args .xs .now) 24 (c .before .before .before .before .match .keys5) ∙ rw (c .before .before .before .before .before .before .operand .ensures, c .before .before .before .before .before .operand2 .ensures))
+returns-5 c = picked (c .before .before .eq .ensures) (build-at (used (c .before .before .before .before .before .before .before .before .before .args .cells .now) (c .before .before .before .before .before .before .before .before .before .args .cursor .mark)) (c .before .before .before .before .before .before .before .before .before .args .op) (c .before .before .before .before .before .before .before .before .before .args .par) (c .before .before .before .before .before .before .before .before .before .args .xs .now) 24 (c .before .before .before .before .match .keys5) ∙ rw (c .before .before .before .before .before .before .nth .ensures, c .before .before .before .before .before .nth2 .ensures))
 
 same-length-6 : tie.Need-same-length-6
 same-length-6 c = search needs
 
 returns-6 : tie.Need-returns-6
 unfolding row rowOf table
-returns-6 c = picked (c .before .before .ite .ensures) (build-at (used (c .before .before .before .before .before .before .before .before .before .before .args .cells .now) (c .before .before .before .before .before .before .before .before .before .before .args .cursor .mark)) (c .before .before .before .before .before .before .before .before .before .before .args .op) (c .before .before .before .before .before .before .before .before .before .before .args .par) (c .before .before .before .before .before .before .before .before .before .before .args .xs .now) 25 (c .before .before .before .before .before .match .keys6) ∙ rw (c .before .before .before .before .before .before .before .operand .ensures, c .before .before .before .before .before .before .operand2 .ensures, c .before .before .before .operand3 .ensures))
+returns-6 c = picked (c .before .before .ite .ensures) (build-at (used (c .before .before .before .before .before .before .before .before .before .before .args .cells .now) (c .before .before .before .before .before .before .before .before .before .before .args .cursor .mark)) (c .before .before .before .before .before .before .before .before .before .before .args .op) (c .before .before .before .before .before .before .before .before .before .before .args .par) (c .before .before .before .before .before .before .before .before .before .before .args .xs .now) 25 (c .before .before .before .before .before .match .keys6) ∙ rw (c .before .before .before .before .before .before .before .nth .ensures, c .before .before .before .before .before .before .nth2 .ensures, c .before .before .before .nth3 .ensures))
 
 same-length-7 : tie.Need-same-length-7
 same-length-7 c = search needs
 
 returns-7 : tie.Need-returns-7
 unfolding row rowOf table
-returns-7 c = picked (c .before .before .uninterpreted .ensures) (build-at (used (c .before .before .before .before .before .before .before .before .before .args .cells .now) (c .before .before .before .before .before .before .before .before .before .args .cursor .mark)) (c .before .before .before .before .before .before .before .before .before .args .op) (c .before .before .before .before .before .before .before .before .before .args .par) (c .before .before .before .before .before .before .before .before .before .args .xs .now) 26 (same (up (up (up (up (up (up (c .before .before .before .before .before .before .before .before .before .pre .1 .0) (c .before .before .before .before .match .rest .0 .0 .0 .0 .0 .1)) (c .before .before .before .before .match .rest .0 .0 .0 .0 .1)) (c .before .before .before .before .match .rest .0 .0 .0 .1)) (c .before .before .before .before .match .rest .0 .0 .1)) (c .before .before .before .before .match .rest .0 .1)) (c .before .before .before .before .match .rest .1)) (c .before .before .before .before .before .before .before .before .before .pre .1 .1)) ∙ rw (c .before .before .before .before .before .before .operand .ensures, c .before .before .before .before .before .operand2 .ensures))
+returns-7 c = picked (c .before .before .uninterpreted .ensures) (build-at (used (c .before .before .before .before .before .before .before .before .before .args .cells .now) (c .before .before .before .before .before .before .before .before .before .args .cursor .mark)) (c .before .before .before .before .before .before .before .before .before .args .op) (c .before .before .before .before .before .before .before .before .before .args .par) (c .before .before .before .before .before .before .before .before .before .args .xs .now) 26 (same (up (up (up (up (up (up (c .before .before .before .before .before .before .before .before .before .pre .1 .0) (c .before .before .before .before .match .rest .0 .0 .0 .0 .0 .1)) (c .before .before .before .before .match .rest .0 .0 .0 .0 .1)) (c .before .before .before .before .match .rest .0 .0 .0 .1)) (c .before .before .before .before .match .rest .0 .0 .1)) (c .before .before .before .before .match .rest .0 .1)) (c .before .before .before .before .match .rest .1)) (c .before .before .before .before .before .before .before .before .before .pre .1 .1)) ∙ rw (c .before .before .before .before .before .before .nth .ensures, c .before .before .before .before .before .nth2 .ensures))
 
 pub build-core-spec : {M : Type 1} → statement M
 build-core-spec =
     tie.close
     (tie.spec
-    operand-requires
-    operand-requires-2
+    nth-requires
+    nth-requires-2
     not-requires
     and-requires
     or-requires
     implies-requires
     eq-requires
-    operand-requires-3
+    nth-requires-3
     ite-requires
     uninterpreted-requires
     same-length

@@ -12,8 +12,8 @@ use borrow.Author.Needs.{needs}
 use Rattle.dispatch.proofs.build_maker.Statement.{statement}
 use Rattle.dispatch.proofs.build_maker.Tie as tie
 
-operand-requires : tie.Need-operand-requires
-operand-requires c κs = search needs
+nth-requires : tie.Need-nth-requires
+nth-requires c κs = search needs
 
 bool-at-requires : tie.Need-bool-at-requires
 bool-at-requires c κs = search needs
@@ -28,7 +28,7 @@ none-of-requires c κs =
     let s = c .before .before .before .before .before .pre .0 in
     let w = ready-wf s in
     let P = passed-at (used (c .before .before .before .before .before .args .cells .now) (c .before .before .before .before .before .args .cursor .mark)) (c .before .before .before .before .before .args .op) (c .before .before .before .before .before .args .par) (c .before .before .before .before .before .args .xs .now) 12 (c .before .match .keys3) (s .fit) in
-    record { arena = s .arena; fit = rw (c .before .before .operand .ensures) (one-type (used (c .before .before .before .before .before .args .cells .now) (c .before .before .before .before .before .args .cursor .mark)) (c .before .before .before .before .before .args .xs .now) (P .sorts)) }
+    record { arena = s .arena; fit = rw (c .before .before .nth .ensures) (one-type (used (c .before .before .before .before .before .args .cells .now) (c .before .before .before .before .before .args .cursor .mark)) (c .before .before .before .before .before .args .xs .now) (P .sorts)) }
 
 some-of-requires : tie.Need-some-of-requires
 unfolding row rowOf table
@@ -36,7 +36,7 @@ some-of-requires c κs =
     let s = c .before .before .before .before .before .pre .0 in
     let w = ready-wf s in
     let P = passed-at (used (c .before .before .before .before .before .args .cells .now) (c .before .before .before .before .before .args .cursor .mark)) (c .before .before .before .before .before .args .op) (c .before .before .before .before .before .args .par) (c .before .before .before .before .before .args .xs .now) 13 (c .before .match .keys4) (s .fit) in
-    record { arena = s .arena; fit = rw (c .before .before .operand .ensures) (one-term (used (c .before .before .before .before .before .args .cells .now) (c .before .before .before .before .before .args .cursor .mark)) (c .before .before .before .before .before .args .xs .now) (P .sorts)) }
+    record { arena = s .arena; fit = rw (c .before .before .nth .ensures) (one-term (used (c .before .before .before .before .before .args .cells .now) (c .before .before .before .before .before .args .cursor .mark)) (c .before .before .before .before .before .args .xs .now) (P .sorts)) }
 
 rest-requires : tie.Need-rest-requires
 rest-requires c κs = search needs
@@ -47,7 +47,7 @@ set-of-requires c κs =
     let s = c .before .before .before .before .before .before .pre .0 in
     let w = ready-wf s in
     let P = passed-at (used (c .before .before .before .before .before .before .args .cells .now) (c .before .before .before .before .before .before .args .cursor .mark)) (c .before .before .before .before .before .before .args .op) (c .before .before .before .before .before .before .args .par) (c .before .before .before .before .before .before .args .xs .now) 14 (c .before .before .match .keys5) (s .fit) in
-    (record { arena = s .arena; fit = (rw (c .before .before .before .operand .ensures) (type-run (used (c .before .before .before .before .before .before .args .cells .now) (c .before .before .before .before .before .before .args .cursor .mark)) (c .before .before .before .before .before .before .args .xs .now) (P .sorts) .0), rw (c .before .before .before .operand .ensures) (elements (used (c .before .before .before .before .before .before .args .cells .now) (c .before .before .before .before .before .before .args .cursor .mark)) (c .before .before .before .before .before .before .args .xs .now) (P .five) .0)) }, rw (c .rest .ensures) (few-run (c .before .before .before .before .before .before .args .xs .now) _ refl (ty ∷ []) (P .few)))
+    (record { arena = s .arena; fit = (rw (c .before .before .before .nth .ensures) (type-run (used (c .before .before .before .before .before .before .args .cells .now) (c .before .before .before .before .before .before .args .cursor .mark)) (c .before .before .before .before .before .before .args .xs .now) (P .sorts) .0), rw (c .before .before .before .nth .ensures) (elements (used (c .before .before .before .before .before .before .args .cells .now) (c .before .before .before .before .before .before .args .cursor .mark)) (c .before .before .before .before .before .before .args .xs .now) (P .five) .0)) }, rw (c .rest .ensures) (few-run (c .before .before .before .before .before .before .args .xs .now) _ refl (ty ∷ []) (P .few)))
 
 record-of-requires : tie.Need-record-of-requires
 unfolding row rowOf table
@@ -70,28 +70,28 @@ same-length c = search needs
 
 returns-2 : tie.Need-returns-2
 unfolding row rowOf table
-returns-2 c = picked (c .before .before .bitvec-lit .ensures) (build-at (used (c .before .before .before .before .before .before .before .before .args .cells .now) (c .before .before .before .before .before .before .before .before .args .cursor .mark)) (c .before .before .before .before .before .before .before .before .args .op) (c .before .before .before .before .before .before .before .before .args .par) (c .before .before .before .before .before .before .before .before .args .xs .now) 11 (c .before .before .before .before .match .keys2) ∙ rw (c .before .before .before .before .before .operand .ensures))
+returns-2 c = picked (c .before .before .bitvec-lit .ensures) (build-at (used (c .before .before .before .before .before .before .before .before .args .cells .now) (c .before .before .before .before .before .before .before .before .args .cursor .mark)) (c .before .before .before .before .before .before .before .before .args .op) (c .before .before .before .before .before .before .before .before .args .par) (c .before .before .before .before .before .before .before .before .args .xs .now) 11 (c .before .before .before .before .match .keys2) ∙ rw (c .before .before .before .before .before .nth .ensures))
 
 same-length-2 : tie.Need-same-length-2
 same-length-2 c = search needs
 
 returns-3 : tie.Need-returns-3
 unfolding row rowOf table
-returns-3 c = picked (c .before .before .none-of .ensures) (build-at (used (c .before .before .before .before .before .before .before .before .args .cells .now) (c .before .before .before .before .before .before .before .before .args .cursor .mark)) (c .before .before .before .before .before .before .before .before .args .op) (c .before .before .before .before .before .before .before .before .args .par) (c .before .before .before .before .before .before .before .before .args .xs .now) 12 (c .before .before .before .before .match .keys3) ∙ rw (c .before .before .before .before .before .operand .ensures))
+returns-3 c = picked (c .before .before .none-of .ensures) (build-at (used (c .before .before .before .before .before .before .before .before .args .cells .now) (c .before .before .before .before .before .before .before .before .args .cursor .mark)) (c .before .before .before .before .before .before .before .before .args .op) (c .before .before .before .before .before .before .before .before .args .par) (c .before .before .before .before .before .before .before .before .args .xs .now) 12 (c .before .before .before .before .match .keys3) ∙ rw (c .before .before .before .before .before .nth .ensures))
 
 same-length-3 : tie.Need-same-length-3
 same-length-3 c = search needs
 
 returns-4 : tie.Need-returns-4
 unfolding row rowOf table
-returns-4 c = picked (c .before .before .some-of .ensures) (build-at (used (c .before .before .before .before .before .before .before .before .args .cells .now) (c .before .before .before .before .before .before .before .before .args .cursor .mark)) (c .before .before .before .before .before .before .before .before .args .op) (c .before .before .before .before .before .before .before .before .args .par) (c .before .before .before .before .before .before .before .before .args .xs .now) 13 (c .before .before .before .before .match .keys4) ∙ rw (c .before .before .before .before .before .operand .ensures))
+returns-4 c = picked (c .before .before .some-of .ensures) (build-at (used (c .before .before .before .before .before .before .before .before .args .cells .now) (c .before .before .before .before .before .before .before .before .args .cursor .mark)) (c .before .before .before .before .before .before .before .before .args .op) (c .before .before .before .before .before .before .before .before .args .par) (c .before .before .before .before .before .before .before .before .args .xs .now) 13 (c .before .before .before .before .match .keys4) ∙ rw (c .before .before .before .before .before .nth .ensures))
 
 same-length-4 : tie.Need-same-length-4
 same-length-4 c = search needs
 
 returns-5 : tie.Need-returns-5
 unfolding row rowOf table
-returns-5 c = picked (c .before .before .set-of .ensures) (build-at (used (c .before .before .before .before .before .before .before .before .before .args .cells .now) (c .before .before .before .before .before .before .before .before .before .args .cursor .mark)) (c .before .before .before .before .before .before .before .before .before .args .op) (c .before .before .before .before .before .before .before .before .before .args .par) (c .before .before .before .before .before .before .before .before .before .args .xs .now) 14 (c .before .before .before .before .before .match .keys5) ∙ rw (c .before .before .before .before .before .before .operand .ensures, c .before .before .before .rest .ensures))
+returns-5 c = picked (c .before .before .set-of .ensures) (build-at (used (c .before .before .before .before .before .before .before .before .before .args .cells .now) (c .before .before .before .before .before .before .before .before .before .args .cursor .mark)) (c .before .before .before .before .before .before .before .before .before .args .op) (c .before .before .before .before .before .before .before .before .before .args .par) (c .before .before .before .before .before .before .before .before .before .args .xs .now) 14 (c .before .before .before .before .before .match .keys5) ∙ rw (c .before .before .before .before .before .before .nth .ensures, c .before .before .before .rest .ensures))
 
 same-length-5 : tie.Need-same-length-5
 same-length-5 c = search needs
@@ -105,13 +105,13 @@ same-length-6 c = search needs
 
 returns-7 : tie.Need-returns-7
 unfolding row rowOf table
-returns-7 c = picked (c .before .before .variable .ensures) (build-at (used (c .before .before .before .before .before .before .before .before .args .cells .now) (c .before .before .before .before .before .before .before .before .args .cursor .mark)) (c .before .before .before .before .before .before .before .before .args .op) (c .before .before .before .before .before .before .before .before .args .par) (c .before .before .before .before .before .before .before .before .args .xs .now) 16 (same (up (up (up (up (up (up (c .before .before .before .before .before .before .before .before .pre .1 .0) (c .before .before .before .before .match .rest .0 .0 .0 .0 .0 .1)) (c .before .before .before .before .match .rest .0 .0 .0 .0 .1)) (c .before .before .before .before .match .rest .0 .0 .0 .1)) (c .before .before .before .before .match .rest .0 .0 .1)) (c .before .before .before .before .match .rest .0 .1)) (c .before .before .before .before .match .rest .1)) (c .before .before .before .before .before .before .before .before .pre .1 .1)) ∙ rw (c .before .before .before .before .before .operand .ensures))
+returns-7 c = picked (c .before .before .variable .ensures) (build-at (used (c .before .before .before .before .before .before .before .before .args .cells .now) (c .before .before .before .before .before .before .before .before .args .cursor .mark)) (c .before .before .before .before .before .before .before .before .args .op) (c .before .before .before .before .before .before .before .before .args .par) (c .before .before .before .before .before .before .before .before .args .xs .now) 16 (same (up (up (up (up (up (up (c .before .before .before .before .before .before .before .before .pre .1 .0) (c .before .before .before .before .match .rest .0 .0 .0 .0 .0 .1)) (c .before .before .before .before .match .rest .0 .0 .0 .0 .1)) (c .before .before .before .before .match .rest .0 .0 .0 .1)) (c .before .before .before .before .match .rest .0 .0 .1)) (c .before .before .before .before .match .rest .0 .1)) (c .before .before .before .before .match .rest .1)) (c .before .before .before .before .before .before .before .before .pre .1 .1)) ∙ rw (c .before .before .before .before .before .nth .ensures))
 
 pub build-maker-spec : {M : Type 1} → statement M
 build-maker-spec =
     tie.close
     (tie.spec
-    operand-requires
+    nth-requires
     bool-at-requires
     bitvec-lit-requires
     none-of-requires

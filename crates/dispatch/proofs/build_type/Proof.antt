@@ -9,8 +9,8 @@ use borrow.Author.Needs.{needs}
 use Rattle.dispatch.proofs.build_type.Statement.{statement}
 use Rattle.dispatch.proofs.build_type.Tie as tie
 
-operand-requires : tie.Need-operand-requires
-operand-requires c κs = search needs
+nth-requires : tie.Need-nth-requires
+nth-requires c κs = search needs
 
 array-share-prefix-none : tie.Need-array-share-prefix-none
 array-share-prefix-none c = search needs
@@ -57,14 +57,14 @@ same-length-3 c = search needs
 
 returns-3 : tie.Need-returns-3
 unfolding row rowOf table
-returns-3 c = picked (c .before .before .option-type .ensures) (build-at (used (c .before .before .before .before .before .before .before .before .args .cells .now) (c .before .before .before .before .before .before .before .before .args .cursor .mark)) (c .before .before .before .before .before .before .before .before .args .op) (c .before .before .before .before .before .before .before .before .args .par) (c .before .before .before .before .before .before .before .before .args .xs .now) 3 (c .before .before .before .before .match .keys3) ∙ rw (c .before .before .before .before .before .operand .ensures))
+returns-3 c = picked (c .before .before .option-type .ensures) (build-at (used (c .before .before .before .before .before .before .before .before .args .cells .now) (c .before .before .before .before .before .before .before .before .args .cursor .mark)) (c .before .before .before .before .before .before .before .before .args .op) (c .before .before .before .before .before .before .before .before .args .par) (c .before .before .before .before .before .before .before .before .args .xs .now) 3 (c .before .before .before .before .match .keys3) ∙ rw (c .before .before .before .before .before .nth .ensures))
 
 same-length-4 : tie.Need-same-length-4
 same-length-4 c = search needs
 
 returns-4 : tie.Need-returns-4
 unfolding row rowOf table
-returns-4 c = picked (c .before .before .set-type .ensures) (build-at (used (c .before .before .before .before .before .before .before .before .args .cells .now) (c .before .before .before .before .before .before .before .before .args .cursor .mark)) (c .before .before .before .before .before .before .before .before .args .op) (c .before .before .before .before .before .before .before .before .args .par) (c .before .before .before .before .before .before .before .before .args .xs .now) 4 (c .before .before .before .before .match .keys4) ∙ rw (c .before .before .before .before .before .operand .ensures))
+returns-4 c = picked (c .before .before .set-type .ensures) (build-at (used (c .before .before .before .before .before .before .before .before .args .cells .now) (c .before .before .before .before .before .before .before .before .args .cursor .mark)) (c .before .before .before .before .before .before .before .before .args .op) (c .before .before .before .before .before .before .before .before .args .par) (c .before .before .before .before .before .before .before .before .args .xs .now) 4 (c .before .before .before .before .match .keys4) ∙ rw (c .before .before .before .before .before .nth .ensures))
 
 same-length-5 : tie.Need-same-length-5
 same-length-5 c = search needs
@@ -77,7 +77,7 @@ pub build-type-spec : {M : Type 1} → statement M
 build-type-spec =
     tie.close
     (tie.spec
-    operand-requires
+    nth-requires
     array-share-prefix-none
     slice-aggregate-type-node
     type-node-requires
