@@ -1,4 +1,7 @@
 // What an answer says: its line as bytes, fixed byte strings and decimal numbers, and the mark that it leaves.
+
+#![tactic(auto)]
+
 ghost use Rattle.std.specs.Prelude.{◌≡◌, ◌+◌, ◌≤◌, length};
 ghost use Rattle.codec.specs.Writing.{Puts};
 ghost use Rattle.table.specs.Answers.{reply_of, mark_after};

@@ -1,5 +1,8 @@
 // The walks on the worst arenas of 65,536 cells: records whose two fields hold the same, level on level, so that a walk which visits
 // a node once for each way to it never ends; and the deepest chains of Options and Somes, which the recursion follows.
+
+#![tactic(auto)]
+
 ghost use Rattle.std.specs.Prelude.{◌+◌, ◌≤◌, ◌<◌};
 
 use arena::cells::{is_term, is_type};

@@ -1,4 +1,7 @@
 // Answers the script on standard input, in a fresh arena of 8,192 cells, on standard output.
+
+#![tactic(auto)]
+
 use libc::{STDIN_FILENO, STDOUT_FILENO};
 
 fn main() {

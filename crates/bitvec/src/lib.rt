@@ -1,11 +1,14 @@
 // Bitvectors of 1 to 64 bits, each a u64 below 2 to the width: bitvec.rs, in its order. SMT-LIB decides every result (the crate smtlib). What speaks of
 // whole numbers, to_int and overflows, stands in bitvec_closures.
+
+#![tactic(auto)]
+
 ghost use Rattle.std.specs.Prelude.{◌≡◌, ◌+◌, ◌-◌, ◌*◌, ◌^◌, ◌==◌};
 ghost use Rattle.smtlib.specs.Theory.{IsWidth, IsBv, AreBv, nat2bv, all_ones, bvnot, bvneg, bvadd, bvmul, bvudiv, bvurem, bvshl, bvlshr, bvult};
 ghost use Rattle.smtlib.specs.Logic.{top, by_top, bvabs, bvsub, bvsdiv, bvsrem, bvsmod, bvule, bvslt, bvsle, zero_extend};
 
 // The number of bits, 1 to 64.
-#[derive(Drop)]
+#[derive(Clone, Copy)]
 pub struct Width(pub u64);
 
 // The number of the width's low bits of v.
@@ -203,7 +206,7 @@ pub fn zero_extend(width: Width, n: u64, v: u64) -> u64
 }
 
 // A number below 2^128.
-#[derive(Drop)]
+#[derive(Clone, Copy)]
 pub struct TwoWords {
     pub high: u64,
     pub low: u64,

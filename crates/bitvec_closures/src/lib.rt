@@ -1,4 +1,7 @@
 // What the factory hands to bvapp, bvcmp and bvso as a closure: the overflow predicates, and the operations by document 01's numbers.
+
+#![tactic(auto)]
+
 ghost use Rattle.std.specs.Prelude.{◌≡◌, ◌+ℤ◌, ◌*ℤ◌, neg_ℤ};
 ghost use Rattle.smtlib.specs.Theory.{IsWidth, IsBv, AreBv};
 ghost use Rattle.smtlib.specs.Overflow.{bv2int, outside, bvnego, bvsaddo, bvssubo, bvsmulo};
@@ -8,7 +11,7 @@ ghost use Rattle.bitvec_closures.specs.Int.{value};
 use bitvec::Width;
 
 // A whole number by sign and magnitude, the magnitude in two words: wide enough for a product of two 64-bit numbers.
-#[derive(Drop)]
+#[derive(Clone, Copy)]
 struct Int {
     negative: bool,
     high: u64,

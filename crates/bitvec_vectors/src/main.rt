@@ -1,9 +1,12 @@
 // Replays the lists of bitvector answers on its standard input, and says how many answers differ from ours.
 // tools/vectors/README.md has the lists' form.
+
+#![tactic(auto)]
+
 use libc::{STDIN_FILENO, STDOUT_FILENO};
 use vectors::{Count, Replay};
 
-#[derive(Drop)]
+#[derive(Clone, Copy)]
 struct Turn {
     more: bool,
     replay: Replay,

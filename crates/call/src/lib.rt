@@ -1,4 +1,7 @@
 // One call on a lent arena: the instruction by value, any cells, any mark.
+
+#![tactic(auto)]
+
 ghost use Rattle.std.specs.Prelude.{◌≡◌, min};
 ghost use Rattle.arena.specs.Cells.{used};
 ghost use Rattle.arena.specs.WellFormed.{IsArena};

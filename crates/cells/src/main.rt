@@ -1,5 +1,8 @@
 // Builds scripts, each in a fresh arena, and writes each answer and then the cells, for the comparison with the original.
 // tools/compare/README.md has the form of what is read and written.
+
+#![tactic(auto)]
+
 ghost use Rattle.std.specs.Prelude.{◌≡◌, ◌≤◌, length};
 ghost use Rattle.arena.specs.WellFormed.{IsArena};
 
@@ -17,7 +20,7 @@ const LINES: usize = 4096;
 const NOWHERE: u64 = 18446744073709551615;
 
 // Where a script stands: the next byte, and the mark.
-#[derive(Drop)]
+#[derive(Clone, Copy)]
 struct Place {
     at: usize,
     mark: usize,

@@ -1,4 +1,7 @@
 // The bytes of a script: numbers in groups of seven bits, and instructions.
+
+#![tactic(auto)]
+
 ghost use Rattle.std.specs.Prelude.{◌≡◌, ◌&&◌, ◌+◌, ◌<◌, ◌≤◌, eqb, ltb, length};
 ghost use Rattle.codec.specs.Digits.{digits};
 ghost use Rattle.codec.specs.Numbers.{groups, number_at};
@@ -8,7 +11,7 @@ ghost use Rattle.codec.specs.Writing.{Puts, written_of, with_number};
 use instruction::Instruction;
 
 // What stands at a place: a number and the place behind it, or none.
-#[derive(Drop)]
+#[derive(Clone, Copy)]
 pub enum Number {
     Read(u64, usize),
     Bad,
@@ -61,7 +64,7 @@ pub fn read_number(bytes: &[u8], at: usize) -> Number
 
 // An instruction and the place behind it. Where none was read `good` is false, the place is the one that was asked for,
 // and every number of the instruction is 0.
-#[derive(Drop)]
+#[derive(Clone, Copy)]
 pub struct Decoded {
     pub good: bool,
     pub next: usize,
@@ -69,7 +72,7 @@ pub struct Decoded {
 }
 
 // Operands, and the place behind them.
-#[derive(Drop)]
+#[derive(Clone, Copy)]
 struct Operands {
     good: bool,
     next: usize,
@@ -154,7 +157,7 @@ pub fn read_instruction(bytes: &[u8], at: usize) -> Decoded
 }
 
 // Where a written number ends, unless it has no room.
-#[derive(Drop)]
+#[derive(Clone, Copy)]
 pub enum Written {
     Behind(usize),
     NoRoom,

@@ -1,12 +1,15 @@
 // Reads every pair of bytes, and the byte strings of its standard input, and writes what they are read as.
 // tools/codec/README.md has the form of both.
+
+#![tactic(auto)]
+
 ghost use Rattle.std.specs.Prelude.{◌<◌, ◌≤◌, length};
 
 use codec::{Number, Written};
 use libc::{STDIN_FILENO, STDOUT_FILENO};
 
 // The bytes that a line of hex stands for; `good` is false where it stands for none.
-#[derive(Drop)]
+#[derive(Clone, Copy)]
 struct Line {
     good: bool,
     used: usize,

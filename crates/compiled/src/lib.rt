@@ -1,5 +1,8 @@
 // The compiled operators on unwrapped terms, as compiler.rs builds them: `compile_app1`, `compile_record`, and `compile_has_attr` and
 // `compile_get_attr` for records.
+
+#![tactic(auto)]
+
 ghost use Rattle.std.specs.Prelude.{◌≡◌, true, ◌*◌, ◌%◌, ◌≤◌, length};
 ghost use Rattle.arena.specs.Lists.{all, evens, odds};
 ghost use Rattle.arena.specs.Nodes.{type_at, mem_at, out, ◌⨟◌};

@@ -1,4 +1,7 @@
 // The dispatcher, the factory's operations: each is decided by its number, and builds as the table says.
+
+#![tactic(auto)]
+
 ghost use Rattle.std.specs.Prelude.{◌≡◌, ◌≤◌, drop};
 ghost use Rattle.arena.specs.Did.{Did};
 ghost use Rattle.nodes.specs.Replies.{term_reply, type_reply};

@@ -1,5 +1,8 @@
 // Document 01's examples, each in a fresh arena of its own length: writes each answer, and then the node at one position.
 // tools/examples/README.md has the form of what is read and written.
+
+#![tactic(auto)]
+
 use codec::Number;
 use libc::{STDIN_FILENO, STDOUT_FILENO};
 use table::Answer;
@@ -11,14 +14,14 @@ const LONGEST: usize = 4096;
 const ROWS: u64 = 4096;
 
 // A number that was read, and the place behind it.
-#[derive(Drop)]
+#[derive(Clone, Copy)]
 struct Got {
     value: u64,
     next: usize,
 }
 
 // Where an example stands: the next byte, and the mark.
-#[derive(Drop)]
+#[derive(Clone, Copy)]
 struct Place {
     at: usize,
     mark: u64,

@@ -1,4 +1,7 @@
 // factory.rs, bitvectors: literals are computed, all else is an application.
+
+#![tactic(auto)]
+
 ghost use Rattle.std.specs.Prelude.{◌≡◌, true, ◌+◌, ◌≤◌};
 ghost use Rattle.arena.specs.Nodes.{width_at};
 ghost use Rattle.arena.specs.Cells.{used};

@@ -1,4 +1,7 @@
 // factory.rs, the core theory: not, and, or, implies, eq and ite, function by function in its order.
+
+#![tactic(auto)]
+
 ghost use Rattle.std.specs.Prelude.{◌≡◌, true, ◌&&◌, ◌||◌, ◌≤◌, eqb};
 ghost use Rattle.arena.specs.Cells.{used};
 ghost use Rattle.arena.specs.Values.{tbool};

@@ -1,4 +1,7 @@
 // factory.rs, sets, and the operators of options and records.
+
+#![tactic(auto)]
+
 ghost use Rattle.std.specs.Prelude.{◌≡◌, true, ◌&&◌};
 ghost use Rattle.arena.specs.Nodes.{kind_at, elem_at};
 ghost use Rattle.arena.specs.Cells.{used};

@@ -1,4 +1,7 @@
 // factory.rs, the helpers that compound terms are made with.
+
+#![tactic(auto)]
+
 ghost use Rattle.std.specs.Prelude.{◌≡◌, true};
 ghost use Rattle.arena.specs.WellFormed.{is_term};
 ghost use Rattle.arena.specs.Values.{tbool, topt};

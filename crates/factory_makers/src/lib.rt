@@ -1,5 +1,8 @@
 // The checked constructors of factory.rs, the types and the literals, over a lent arena. Each function of the factory builds the nodes that the Rust's text
 // names, in the order in which Rust evaluates it, and answers the term with the cursor behind it, or no room.
+
+#![tactic(auto)]
+
 ghost use Rattle.std.specs.Prelude.{◌≡◌, true, ◌&&◌, ◌||◌, [], ◌∷◌, ◌≤◌, ◌%◌, length};
 ghost use Rattle.arena.specs.Cells.{used};
 ghost use Rattle.arena.specs.WellFormed.{small, is_type, is_term, IsArena, Below};

@@ -1,9 +1,12 @@
 // One instruction of a script, as the decoder hands it to the dispatcher: by value, with room for 257 operands.
+
+#![tactic(auto)]
+
 ghost use Rattle.std.specs.Prelude.{◌≡◌};
 ghost use Rattle.instruction.specs.Instruction.{held, without};
 
 // The operands are the first `count` numbers of the array.
-#[derive(Drop)]
+#[derive(Clone, Copy)]
 pub struct Instruction {
     pub operation: u64,
     pub parameter: u64,

@@ -1,4 +1,7 @@
 // The test of each kind of node over the nodes below q.
+
+#![tactic(auto)]
+
 ghost use Rattle.std.specs.Prelude.{◌≡◌, true, cond, [], ◌∷◌, length, get_or, eqb, leb};
 ghost use Rattle.arena.specs.Lists.{every, all, rising, same_list};
 ghost use Rattle.arena.specs.Nodes.{mem_at, arg_at, paired, field_types};

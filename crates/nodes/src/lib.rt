@@ -1,4 +1,7 @@
 // A node is looked for before it is added; a found one is reused, so equal nodes are one position.
+
+#![tactic(auto)]
+
 ghost use Rattle.std.specs.Prelude.{◌≡◌, true, ◌++◌, ◌+◌, ◌≤◌, length, take, drop};
 ghost use Rattle.std.proofs.Math.Seq.{paste};
 ghost use Rattle.arena.specs.Lists.{same_list};
@@ -11,27 +14,27 @@ ghost use Rattle.nodes.specs.Replies.{term_reply, type_reply, node_reply};
 use arena::{HEADER, TermPos, TypePos};
 
 // The cells below the mark are in use: the next node starts there.
-#[derive(Drop)]
+#[derive(Clone, Copy)]
 pub struct Cursor {
     pub mark: usize,
 }
 
 // A term found or added and the cursor behind it, or no room.
-#[derive(Drop)]
+#[derive(Clone, Copy)]
 pub enum TermStep {
     At(Cursor, TermPos),
     Full,
 }
 
 // A type found or added and the cursor behind it, or no room.
-#[derive(Drop)]
+#[derive(Clone, Copy)]
 pub enum TypeStep {
     At(Cursor, TypePos),
     Full,
 }
 
 // The same of a node of either sort.
-#[derive(Drop)]
+#[derive(Clone, Copy)]
 pub enum NodeStep {
     At(Cursor, u64),
     Full,

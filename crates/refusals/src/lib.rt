@@ -1,5 +1,8 @@
 // Document 01's refusals 2 to 8 of an instruction on a well-formed arena: its tests in the order of their numbers, of which the first that
 // holds is given. Conditions on an operation's number are joined by | and &, so that each is one value.
+
+#![tactic(auto)]
+
 ghost use Rattle.std.specs.Prelude.{◌≡◌, true, false, cond, ◌||◌, ◌≤◌, length, drop, leb};
 ghost use Rattle.arena.specs.Lists.{all, any, within};
 ghost use Rattle.arena.specs.Nodes.{type_at, elem_at, width_at};

@@ -1,4 +1,7 @@
 // Tests of runs of numbers: members, and fields as attribute and position in turn. Several tests at once.
+
+#![tactic(auto)]
+
 ghost use Rattle.std.specs.Prelude.{◌≡◌, [], ◌∷◌, ◌≤◌, length, get_or, drop, eqb};
 ghost use Rattle.arena.specs.Lists.{every, all, rising, evens, same_list, holds_field};
 ghost use Rattle.arena.specs.WellFormed.{small, field_run};

@@ -1,4 +1,7 @@
 // A whole script: one instruction after the other in a fresh arena, and a line for each.
+
+#![tactic(auto)]
+
 ghost use Rattle.std.specs.Prelude.{◌≡◌, ◌+◌, ◌≤◌, length};
 ghost use Rattle.arena.specs.WellFormed.{IsArena};
 ghost use Rattle.script.specs.Script.{lent};
@@ -11,7 +14,7 @@ pub const LONGEST: usize = 65536;
 pub const ROOM: usize = 284034;
 
 // Where a script stands: the next byte, the mark, and the end of the lines.
-#[derive(Drop)]
+#[derive(Clone, Copy)]
 struct Place {
     at: usize,
     mark: usize,

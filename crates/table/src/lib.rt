@@ -1,8 +1,10 @@
 // The table of operations, the refusals in their order, what a call answers and what is promised of it: definitions in specs/, laws in proofs/. The code
 // stands in the crates refusals, dispatch and call.
 
+#![tactic(auto)]
+
 // The position and the new mark, or the number of a refusal, which leaves every cell and the mark as they were.
-#[derive(Drop)]
+#[derive(Clone, Copy)]
 pub enum Answer {
     Accepted(u64, usize),
     Refused(u64),
@@ -10,7 +12,7 @@ pub enum Answer {
 
 // The operands of an operation: a type where `true` stands, and then so many terms; pairs of an attribute and a type or a term; the
 // first again, with a run of terms behind it.
-#[derive(Drop)]
+#[derive(Clone, Copy)]
 pub enum Form {
     Fixed(bool, u8),
     Pairs(bool),
@@ -18,7 +20,7 @@ pub enum Form {
 }
 
 // A term's type as an operation names it: the one at a position, or any of a kind.
-#[derive(Drop)]
+#[derive(Clone, Copy)]
 pub enum Named {
     Type(u64),
     Kind(u64),

@@ -1,4 +1,7 @@
 // The functions that a program in C or Rust links: slices and numbers, and a name that begins with the library's.
+
+#![tactic(auto)]
+
 ghost use Rattle.std.specs.Prelude.{◌≡◌};
 ghost use Rattle.arena.specs.Fresh.{Freshened};
 ghost use Rattle.arena.specs.WellFormed.{IsArena};

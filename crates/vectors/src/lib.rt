@@ -1,5 +1,8 @@
 // Replays lists of bitvector answers that others gave, a byte at a time, and counts where ours differ. A line that is no
 // case counts as different, so that nothing is passed over.
+
+#![tactic(auto)]
+
 ghost use Rattle.std.specs.Prelude.{◌≡◌, true, ◌+◌, ◌<◌, ◌≤◌, ◌^◌};
 ghost use Rattle.smtlib.specs.Theory.{IsWidth, IsBv, AreBv};
 ghost use Rattle.smtlib.specs.Logic.{zero_extend};
@@ -8,7 +11,7 @@ ghost use Rattle.vectors.specs.Answers.{plain_of, Right};
 use bitvec::Width;
 
 // A line of a list: an operation at a width, its operands, and the answer that another gave.
-#[derive(Drop)]
+#[derive(Clone, Copy)]
 struct Case {
     operation: u64,
     width: u64,
@@ -17,21 +20,21 @@ struct Case {
     answer: u64,
 }
 
-#[derive(Drop)]
+#[derive(Clone, Copy)]
 enum Parsed {
     Good(Case),
     Bad,
 }
 
 // A number, and the place after it.
-#[derive(Drop)]
+#[derive(Clone, Copy)]
 enum Number {
     Read(u64, usize),
     Bad,
 }
 
 // What a line is: the heading of a list, or a case.
-#[derive(Drop)]
+#[derive(Clone, Copy)]
 enum Line {
     Original,
     Solver,
@@ -39,14 +42,14 @@ enum Line {
     Different,
 }
 
-#[derive(Drop)]
+#[derive(Clone, Copy)]
 pub struct Count {
     pub compared: u64,
     pub different: u64,
 }
 
 // The line that is being read, and what the lines before it gave.
-#[derive(Drop)]
+#[derive(Clone, Copy)]
 pub struct Replay {
     // The line's first bytes, and how many it has so far: 81 stands for a line that is longer than the room.
     pub text: [u8; 80],

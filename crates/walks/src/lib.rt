@@ -1,4 +1,7 @@
 // The two tests that recurse over members: is a term a literal, is a type free of sets. Shared nodes are visited once.
+
+#![tactic(auto)]
+
 ghost use Rattle.std.specs.Prelude.{◌≡◌, true, ◌<◌, length, get_or};
 ghost use Rattle.arena.specs.Nodes.{node_at, paired, args};
 ghost use Rattle.arena.specs.Cells.{used};

@@ -1,5 +1,7 @@
 // Whether lent cells are a well-formed arena: the test of refusal 1.
 
+#![tactic(auto)]
+
 ghost use Rattle.std.specs.Prelude.{◌≡◌, true, ◌≤◌, length, take};
 ghost use Rattle.arena.specs.Lists.{same_list};
 ghost use Rattle.arena.specs.Nodes.{same, fresh};

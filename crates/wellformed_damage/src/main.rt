@@ -1,4 +1,7 @@
 // Every single-cell change of a small sound arena, to each number up to 160: which are still well formed.
+
+#![tactic(auto)]
+
 ghost use Rattle.std.specs.Prelude.{◌≤◌, ◌<◌};
 
 use libc::STDOUT_FILENO;
