@@ -74,7 +74,7 @@ eq≢gt : {X : Type 0} → Ordering.eq ≡ Ordering.gt → X
 eq≢gt e = let z : ◌≡◌ {A = ℕ} 0 1 = cc in absurd (omega arith)
 
 cmp_eq : (m n : ℕ) → compare m n ≡ Ordering.eq → m ≡ n
-cmp_eq m n e = eqb-true m n (ap Dec.is_eq e)
+cmp_eq m n e = eqb-true m n (ap Dec.compare_is_eq e)
 
 cmp_gt : (m n : ℕ) → compare m n ≡ Ordering.gt → n < m
 cmp_gt m n e = leb-false m n (ap is_le e)
@@ -82,7 +82,7 @@ cmp_gt m n e = leb-false m n (ap is_le e)
 cmp_lt : (m n : ℕ) → compare m n ≡ Ordering.lt → m < n
 cmp_lt m n e =
     let h = leb-true m n (ap is_le e) in
-    let k = eqb-false m n (ap Dec.is_eq e) in
+    let k = eqb-false m n (ap Dec.compare_is_eq e) in
     omega arith
 
 lt_cmp : (m n : ℕ) → m < n → compare m n ≡ Ordering.lt

@@ -1,0 +1,13 @@
+use Rattle.std.proofs.Common.{sym, ◌∙◌, rules}
+use Rattle.smtlib.proofs.Absolute.{abs_high, abs_low}
+use Rattle.bitvec.proofs.abs.Goals as goal
+
+pub returns-then-msb : goal.returns-then-msb
+returns-then-msb c =
+    let a = c.args in
+    c.neg.ensures ∙ sym (abs_high a.width.0 a.v (sym c.msb.ensures ∙ c.if-msb.true))
+
+pub returns-else-msb : goal.returns-else-msb
+returns-else-msb c =
+    let a = c.args in
+    sym (abs_low a.width.0 a.v (sym c.msb.ensures ∙ c.if-msb.false))

@@ -1,0 +1,6 @@
+use Rattle.std.proofs.Common.{rules}
+use Rattle.smtlib.proofs.Word.{half_fits}
+use Rattle.bitvec.proofs.int_min.Goals as goal
+
+pub returns : goal.returns
+returns c = half_fits c.args.width.0 c.requires.most

@@ -1,0 +1,11 @@
+use Rattle.std.proofs.Common.{sym, rules}
+use Rattle.smtlib.proofs.Division.{lshr_in, lshr_out}
+use Rattle.bitvec.proofs.lshr.Goals as goal
+
+pub returns-then-rhs-width : goal.returns-then-rhs-width
+returns-then-rhs-width c =
+    sym (lshr_in c.args.width.0 c.args.lhs c.args.rhs c.requires.below)
+
+pub returns-else-rhs-width : goal.returns-else-rhs-width
+returns-else-rhs-width c =
+    sym (lshr_out c.args.width.0 c.args.lhs c.args.rhs c.requires.below c.if-rhs-width.false)

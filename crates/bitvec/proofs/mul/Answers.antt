@@ -1,0 +1,11 @@
+use Rattle.std.proofs.Common.{◌∙◌, rules}
+use Rattle.smtlib.specs.Theory.{bvmul}
+use Rattle.smtlib.proofs.Columns.{low_word}
+use Rattle.bitvec.proofs.mul.Goals as goal
+
+pub returns : goal.returns
+unfolding bvmul
+returns c =
+    let p = c.product-p in
+    c.of_nat.ensures
+    ∙ low_word c.args.width.0 p.result.high p.result.low c.args.lhs c.args.rhs c.requires.most p.ensures

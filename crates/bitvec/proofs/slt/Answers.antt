@@ -1,0 +1,10 @@
+use Rattle.std.proofs.Common.{ap, ◌∙◌, rules}
+use Rattle.smtlib.specs.Logic.{top, by_top, bvslt}
+use Rattle.bitvec.proofs.slt.Goals as goal
+
+pub returns : goal.returns
+unfolding bvslt
+returns c =
+    let a = c.args in
+    let w = a.width.0 in
+    c.by_sign.ensures ∙ ap (by_top (top w a.lhs) (top w a.rhs)) c.ult.ensures
