@@ -1,5 +1,5 @@
 -- Whole numbers by sign and magnitude. Assumes nothing.
-use Rattle.std.proofs.Common.{◌≡◌, ℕ, zero, suc, ◌+◌, ◌-◌, ◌*◌, ◌%◌, ◌^◌, ◌<◌, ◌≤◌, Bool, true, false, cond, not, ◌||◌, eqb, ltb, leb, ◌⊎◌, ℤ, pos, negsuc, ◌+ℤ◌, ◌-ℤ◌, ◌*ℤ◌, neg_ℤ, sym, refl, ap, ◌∙◌, ⊎_elim, mul-zero, zero-mul, arith, pow_pos, le-ltb, lt-ltb, eqb-true, le-leb}
+use Rattle.std.proofs.Common.{◌≡◌, ℕ, zero, suc, ◌+◌, ◌-◌, ◌*◌, ◌%◌, ◌^◌, ◌<◌, ◌≤◌, Bool, true, false, cond, not, ◌||◌, eqb, ltb, leb, ℤ, pos, negsuc, ◌+ℤ◌, ◌-ℤ◌, ◌*ℤ◌, neg_ℤ, sym, refl, ap, ◌∙◌, ⊎_elim, mul-zero, zero-mul, arith, pow_pos, le-ltb, lt-ltb, eqb-true, le-leb}
 use mathlib.Core.Bool.{or-false, beq}
 use lib.Dec.{leb-suc-suc}
 use lib.IntN.{neg_ℤ-neg_ℤ, neg_ℤ-+ℤ}

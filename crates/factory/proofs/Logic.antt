@@ -2,7 +2,7 @@
 use mathlib.Core.Path.{◌≡◌, refl, sym, ap, ◌∙◌}
 use Prim.Native.Nat.{ℕ}
 use native.Mathlib.Omega.{arith}
-use mathlib.Core.Bool.{Bool, true, false, not, cond, ◌&&◌, ◌||◌, not-not, and_self, and_true, and_false, and-not_self, or_self, or-true, or-false, or-not_self}
+use mathlib.Core.Bool.{Bool, true, false, not, cond, ◌&&◌, ◌||◌, not-not, and_self, and-true, and-false, and-not_self, or_self, or-true, or-false, or-not_self}
 use mathlib.Core.Logic.{◌⊎◌, inl, inr}
 use mathlib.Core.List.{[], ◌∷◌}
 use lib.Dec.{eqb}
@@ -100,7 +100,7 @@ and_law {a} w t u m n =
     connective_law and w t u m n 21 (λ l. applied (node 121 0 0 (t ∷ u ∷ [])) w (omega arith) (is_and t u (bool_tm w m) (bool_tm w n)) (ty_bool w.base) l)
   where
     and : Connective true ◌&&◌
-    and = record { idem = and_self; unit_l = λ x. refl; unit_r = and_true; zero_l = λ x. refl; zero_r = and_false; excluded = and-not_self }
+    and = record { idem = and_self; unit_l = λ x. refl; unit_r = and-true; zero_l = λ x. refl; zero_r = and-false; excluded = and-not_self }
 
 pub or_law : {a : Nodes} → WF a → (t u : ℕ) → Typed a tbool t → Typed a tbool u → Law a (Lit a t × Lit a u) tbool (λ I. means22 (meaning I a t) (meaning I a u)) (or_t a t u)
 unfolding or_t junction mean_node term core_means positions
