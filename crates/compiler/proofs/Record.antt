@@ -66,7 +66,7 @@ module _ {X : Type 0} {f g : ℕ → X} where
   alike_fields : {d c r q : List ℕ} → Alike f g d c → Alike f g r q → Alike f g (fields_of d r) (fields_of c q)
   unfolding fields_of
   alike_fields m nil = m
-  alike_fields m (pair {x = x} {y = y} {z = z} e l) = alike_fields (alike_put x y z e m) l
+  alike_fields {d = d} {c = c} m (pair {x = x} {y = y} {z = z} e l) = alike_fields {d = put_field x y d} {c = put_field x z c} (alike_put x y z e m) l
 
 -- ---- option_get of every listed field
 
