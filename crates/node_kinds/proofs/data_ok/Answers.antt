@@ -1,0 +1,17 @@
+use mathlib.Core.Path.{ap, ◌∙◌}
+use borrow.Author.Rules.{rules}
+use Rattle.arena.specs.Cells.{used}
+use Rattle.arena.specs.Nodes.{type_at}
+use Rattle.node_tests.proofs.Arms.{data_by}
+use Rattle.node_kinds.proofs.data_ok.Goals as goal
+
+pub returns : goal.returns
+returns c =
+    let s = c.args in
+    let a = used s.cells.now s.q in
+    c.data_on.ensures ∙ data_by a s.k s.t s.p _ _ _
+    c.kind_at-kt.ensures
+    (c.type_at-tx.ensures ∙ ap (type_at a) c.nth.ensures)
+    (c.type_at-ty.ensures ∙ ap (type_at a) c.nth-2.ensures)
+    c.kind_at-kx.ensures _ c.kind_at-ky.ensures c.elem_at-ex.ensures c.elem_at-ey.ensures
+    c.members_at.ensures c.holds_field-f.ensures
