@@ -15,18 +15,18 @@ use borrow.Author.Rules.{rules}
 use Rattle.factory_makers.proofs.field_types.Goals as goal
 
 pub loop-i-init : goal.loop-i-init
-loop-i-init c = (omega arith, refl, refl, c.requires.run_value.0, refl, refl)
+loop-i-init c = (omega arith, refl, refl, c.requires.run_value, refl, refl)
 
 pub type_of-requires : goal.type_of-requires
 type_of-requires c = record { below = c.requires.below; bound = term_pos _ _ (odd_term _ c.args.run.now c.loop-i.i c.loop-i-test.true c.loop-i.invariant.3).0 }
 
 pub bounds-types-i-in-loop-i : goal.bounds-types-i-in-loop-i
-bounds-types-i-in-loop-i c = let p = c.requires.run_value.1.1 in let l = c.loop-i.invariant.2 in let t = c.loop-i-test.true in let z = length-set c.loop-i.types c.loop-i.i (get_or c.args.run.now c.loop-i.i 0) in omega arith
+bounds-types-i-in-loop-i c = let p = c.requires.run_in_bounds in let l = c.loop-i.invariant.2 in let t = c.loop-i-test.true in let z = length-set c.loop-i.types c.loop-i.i (get_or c.args.run.now c.loop-i.i 0) in omega arith
 
 pub loop-i-preserved : goal.loop-i-preserved
 loop-i-preserved c =
     let l = c.loop-i in
-    let k : l.i + 1 < length l.types = let p = c.requires.run_value.1.1 in let t = c.loop-i-test.true in let e = l.invariant.2 in omega arith in (
+    let k : l.i + 1 < length l.types = let p = c.requires.run_in_bounds in let t = c.loop-i-test.true in let e = l.invariant.2 in omega arith in (
       omega arith,
       omega arith,
       length-set (set l.types l.i (get_or c.args.run.now l.i 0)) (l.i + 1) c.type_of.result.0 ∙ length-set l.types l.i (get_or c.args.run.now l.i 0) ∙ l.invariant.2,
@@ -41,5 +41,5 @@ shape_of-types c = c.loop-i.invariant.2
 pub returns : goal.returns
 returns c =
     let l = c.loop-i in
-    let e : l.i ≡ length c.args.run.now = let p = c.requires.run_value.1.0 in let h = l.invariant in let t = c.loop-i-test.false in omega arith in
-    types_held c.args.run.now e l.invariant.2 c.requires.run_value.1.1 (l.invariant.4 ∙ types_last (used c.args.cells.now c.args.mark) c.args.run.now (take l.i l.types) l.i c.loop-i-test.false) l.invariant.5
+    let e : l.i ≡ length c.args.run.now = let p = c.requires.run_len in let h = l.invariant in let t = c.loop-i-test.false in omega arith in
+    types_held c.args.run.now e l.invariant.2 c.requires.run_in_bounds (l.invariant.4 ∙ types_last (used c.args.cells.now c.args.mark) c.args.run.now (take l.i l.types) l.i c.loop-i-test.false) l.invariant.5

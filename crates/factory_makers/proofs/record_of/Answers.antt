@@ -22,7 +22,7 @@ unfolding all odds
 field_types-requires c =
     let w = ready_wf c.requires.ready in
     let h = c.fields-n.ensures in
-    (c.requires.ready.arena.below, (rw h.front (fields_of-all _ [] c.args.list.now refl c.requires.ready.fit.0), (rw h.front (fields_even c.args.list.now c.requires.list_len_bound c.requires.ready.fit.1), (let f = holds-length h in let g = h.fits in omega arith))))
+    record { below = c.requires.ready.arena.below; run_value = rw h.front (fields_of-all _ [] c.args.list.now refl c.requires.ready.fit.0); run_len = rw h.front (fields_even c.args.list.now c.requires.list_len_bound c.requires.ready.fit.1); run_in_bounds = (let f = holds-length h in let g = h.fits in omega arith) }
 
 pub slice_bounds-typed_node-end : goal.slice_bounds-typed_node-end
 slice_bounds-typed_node-end c = sym (length-take-le _ _ (let h = holds-length c.fields-n.ensures in let g = c.field_types.ensures.fits in omega arith))

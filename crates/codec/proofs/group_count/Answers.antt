@@ -1,0 +1,7 @@
+use mathlib.Core.Path.{sym, ◌∙◌}
+use Rattle.codec.proofs.Groups.{length-groups}
+use borrow.Author.Rules.{rules}
+use Rattle.codec.proofs.group_count.Goals as goal
+
+pub returns : goal.returns
+returns c = c.digit_count.ensures ∙ sym (length-groups c.args.n)
