@@ -7,15 +7,6 @@ use Rattle.codec.specs.Instructions.{numbers_at, decoded_of}
 use Rattle.codec.proofs.Stages.{no_operation, no_parameter, no-count, too_many, with_operands, operands-broken, operands-whole}
 use Rattle.codec.proofs.read_instruction.Goals as goal
 
-operation : (c : tie.After-known-told) → Read c.before.operation.given.0.0 c.before.operation.given.0.1.0 ≡ number_at c.before.before.before.before.before.args.bytes.now c.before.before.before.before.before.args.at
-operation c = sym c.before.operation.given.1 ∙ c.before.before.before.read_number.ensures
-
-parameter : (c : tie.After-known-told2) → Read c.before.parameter.given.0.0 c.before.parameter.given.0.1.0 ≡ number_at c.before.before.before.before.before.before.before.before.before.args.bytes.now c.before.before.before.before.before.operation.given.0.1.0
-parameter c = sym c.before.parameter.given.1 ∙ c.before.before.before.read-number2.ensures
-
-count : (c : tie.After-known-told3) → Read c.before.count.given.0.0 c.before.count.given.0.1.0 ≡ number_at c.before.before.before.before.before.before.before.before.before.before.before.before.before.args.bytes.now c.before.before.before.before.before.parameter.given.0.1.0
-count c = sym c.before.count.given.1 ∙ c.before.before.before.read-number3.ensures
-
 pub returns-in_default : goal.returns-in_default
 returns-in_default c =
     let s = c.args in
@@ -27,21 +18,21 @@ pub returns-in_default-read_number : goal.returns-in_default-read_number
 returns-in_default-read_number c =
     let s = c.args in
     c.undecoded-in_default-read_number.ensures
-    ∙ ap (decoded_of s.at) (sym (no_parameter s.bytes.now s.at (operation c)
+    ∙ ap (decoded_of s.at) (sym (no_parameter s.bytes.now s.at c.in-Read.ensures
     (sym c.in_default-read_number.is ∙ c.read_number-2.ensures)))
 
 pub returns-in_default-read_number-2 : goal.returns-in_default-read_number-2
 returns-in_default-read_number-2 c =
     let s = c.args in
     c.undecoded-in_default-read_number-2.ensures
-    ∙ ap (decoded_of s.at) (sym (no-count s.bytes.now s.at (operation c) (parameter c)
+    ∙ ap (decoded_of s.at) (sym (no-count s.bytes.now s.at c.in-Read.ensures c.in-Read-read_number.ensures
     (sym c.in_default-read_number-2.is ∙ c.read_number-3.ensures)))
 
 pub returns-then-count-gt257 : goal.returns-then-count-gt257
 returns-then-count-gt257 c =
     let s = c.args in
     c.undecoded-then-count-gt257.ensures
-    ∙ ap (decoded_of s.at) (sym (too_many s.bytes.now s.at (operation c) (parameter c) (count c) c.if-count-gt257.true))
+    ∙ ap (decoded_of s.at) (sym (too_many s.bytes.now s.at c.in-Read.ensures c.in-Read-read_number.ensures c.in-Read-read_number-2.ensures c.if-count-gt257.true))
 
 pub returns-then-not-listed : goal.returns-then-not-listed
 returns-then-not-listed c =
@@ -50,9 +41,9 @@ returns-then-not-listed c =
     let k = c.in-Read-read_number-2.c in
     c.undecoded-then-not-listed.ensures
     ∙ ap (decoded_of s.at)
-    (sym (with_operands s.bytes.now s.at (operation c) (parameter c) (count c) c.if-count-gt257.false
+    (sym (with_operands s.bytes.now s.at c.in-Read.ensures c.in-Read-read_number.ensures c.in-Read-read_number-2.ensures c.if-count-gt257.false
     ∙ operands-broken c.in-Read.operation c.in-Read-read_number.parameter n k
-    (numbers_at n s.bytes.now k) c.read_operands-listed.result c.read_operands-listed.ensures (not-true _ c.if-not-listed.true)))
+    (numbers_at n s.bytes.now k) c.read_operands-listed.result c.read_operands-listed.ensures (c.if-not-listed.true)))
 
 pub returns : goal.returns
 returns c =
@@ -61,4 +52,4 @@ returns c =
     let k = c.in-Read-read_number-2.c in
     operands-whole c.in-Read.operation c.in-Read-read_number.parameter n k s.at
     (numbers_at n s.bytes.now k) c.read_operands-listed.result c.read_operands-listed.ensures (not-false _ c.if-not-listed.false)
-    ∙ ap (decoded_of s.at) (sym (with_operands s.bytes.now s.at (operation c) (parameter c) (count c) c.if-count-gt257.false))
+    ∙ ap (decoded_of s.at) (sym (with_operands s.bytes.now s.at c.in-Read.ensures c.in-Read-read_number.ensures c.in-Read-read_number-2.ensures c.if-count-gt257.false))

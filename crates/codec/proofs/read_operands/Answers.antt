@@ -31,8 +31,8 @@ loop-read-preserved c =
     let s = c.args in (
       search rules,
       simp length-set l.invariant.1,
-      sym (filled_more s.at (s.count - l.read) l.next s.bytes.now l.values l.read (s.count - (l.read + 1)) c.value-1.given.0.0 c.value-1.given.0.1.0 (omega arith)
-          (sym c.value-1.given.1 ∙ c.read_number.ensures))
+      sym (filled_more s.at (s.count - l.read) l.next s.bytes.now l.values l.read (s.count - (l.read + 1)) c.in-Read.value c.in-Read.behind (omega arith)
+          (sym c.in-Read.is ∙ c.read_number.ensures))
           ∙ l.invariant.2,
     )
 

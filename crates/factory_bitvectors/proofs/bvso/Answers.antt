@@ -1,0 +1,39 @@
+use borrow.Author.Rules.{rules}
+use mathlib.Core.Path.{sym, ◌∙◌}
+use Rattle.arena.proofs.Steps.{did_here, picked}
+use Rattle.factory.specs.Bitvectors.{bvso_t}
+use Rattle.factory.proofs.Calls.{term_pos, ready_wf}
+use Rattle.factory.proofs.Operands.{two_bv}
+use Rattle.factory_bitvectors.proofs.bvso.Goals as goal
+
+pub both_bv-requires : goal.both_bv-requires
+both_bv-requires c =
+    record { arena = c.requires.ready.arena; fit = (c.requires.ready.fit.0.isterm, c.requires.ready.fit.1.1.isterm) }
+
+pub width_of-width-requires : goal.width_of-width-requires
+width_of-width-requires c =
+    record { arena = c.requires.ready.arena; fit = c.requires.ready.fit.0 }
+
+pub par_of-lhs-requires : goal.par_of-lhs-requires
+par_of-lhs-requires c =
+    record { below = c.requires.ready.arena.below; bound = term_pos _ _ c.requires.ready.fit.0.isterm }
+
+pub par_of-rhs-requires : goal.par_of-rhs-requires
+par_of-rhs-requires c =
+    record { below = c.requires.ready.arena.below; bound = term_pos _ _ c.requires.ready.fit.1.1.isterm }
+
+pub bvso-requires : goal.bvso-requires
+bvso-requires c =
+    rw (c.width_of-width.ensures, c.par_of-lhs.ensures, c.par_of-rhs.ensures)
+    (two_bv (ready_wf c.requires.ready) c.args.t.0 c.args.u.0 c.requires.ready.fit.0 c.requires.ready.fit.1 (sym c.both_bv.ensures ∙ c.if-both_bv.true))
+
+pub returns-then-both_bv : goal.returns-then-both_bv
+unfolding bvso_t
+returns-then-both_bv c =
+    picked (did_here c.requires.ready.arena c.bool_at.result.0)
+    (rw (sym c.both_bv.ensures ∙ c.if-both_bv.true, c.bool_at.ensures, c.bvso.ensures, c.width_of-width.ensures, c.par_of-lhs.ensures, c.par_of-rhs.ensures))
+
+pub returns : goal.returns
+unfolding bvso_t
+returns c =
+    picked c.app2.ensures (rw (sym c.both_bv.ensures ∙ c.if-both_bv.false))

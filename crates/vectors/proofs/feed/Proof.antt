@@ -1,0 +1,47 @@
+-- `vectors::feed` is safe and ends: each turn passes one byte. Assumes nothing.
+use borrow.Author.Rules.{rules}
+use Prim.Native.Nat.{◌-◌}
+use lib.ListN.{length}
+use Rattle.vectors.proofs.feed.Statement.{statement}
+use Rattle.vectors.proofs.feed.Tie as tie
+
+abbrev invariant-loop : tie.invariant-loop
+invariant-loop s next₀ i₀ next i = Unit {0}
+
+abbrev decreases-loop : tie.decreases-loop
+decreases-loop s next₀ i₀ next i = length s - i
+
+loop-holds : tie.Need-loop-init invariant-loop decreases-loop
+loop-holds c = search rules
+
+shared-slice-read-with-byte : tie.Need-shared-slice-read-with-byte invariant-loop decreases-loop
+shared-slice-read-with-byte c = search rules
+
+with-byte-requires : tie.Need-with-byte-requires invariant-loop decreases-loop
+with-byte-requires c κs = search rules
+
+add-i : tie.Need-overflow-add-i invariant-loop decreases-loop
+add-i c = search rules
+
+loop-less : tie.Need-loop-smaller invariant-loop decreases-loop
+loop-less c = search rules
+
+loop-again : tie.Need-loop-preserved invariant-loop decreases-loop
+loop-again c = search rules
+
+returns : tie.Need-returns invariant-loop decreases-loop
+returns c = search rules
+
+pub feed-spec : {M : Type 1} → statement M
+feed-spec =
+    tie.close
+    (tie.spec
+    invariant-loop
+    decreases-loop
+    loop-holds
+    shared-slice-read-with-byte
+    with-byte-requires
+    add-i
+    loop-less
+    loop-again
+    returns)
