@@ -43,7 +43,7 @@ returns-then-not-listed c =
     ∙ ap (decoded_of s.at)
     (sym (with_operands s.bytes.now s.at c.in-Read.ensures c.in-Read-read_number.ensures c.in-Read-read_number-2.ensures c.if-count-gt257.false
     ∙ operands-broken c.in-Read.operation c.in-Read-read_number.parameter n k
-    (numbers_at n s.bytes.now k) c.read_operands-listed.result c.read_operands-listed.ensures (c.if-not-listed.true)))
+    (numbers_at n s.bytes.now k) c.read_operands-listed.result c.read_operands-listed.ensures (not-true _ c.if-not-listed.true)))
 
 pub returns : goal.returns
 returns c =

@@ -1,0 +1,26 @@
+use borrow.Author.Rules.{rules}
+use native.Mathlib.Omega.{arith}
+use Rattle.factory.proofs.Calls.{ready_wf, term_pos}
+use Rattle.arena.proofs.Insertion.{holds-length}
+use Rattle.arena.proofs.Known.{set_node}
+use Rattle.arena.proofs.Steps.{picked}
+use borrow.Author.Rules.{rules}
+use Rattle.factory_data.proofs.inter_of.Goals as goal
+
+pub type_of-ty-requires : goal.type_of-ty-requires
+type_of-ty-requires c = record { below = c.requires.arena.below; bound = (let e = c.requires.fit.0 in omega arith) }
+
+pub members_of-left-requires : goal.members_of-left-requires
+members_of-left-requires c = record { below = c.requires.arena.below; bound = (let e = c.requires.fit.0 in omega arith) }
+
+pub members_of-right-requires : goal.members_of-right-requires
+members_of-right-requires c = record { below = c.requires.arena.below; bound = term_pos _ _ c.requires.fit.1 }
+
+pub common-n-requires : goal.common-n-requires
+common-n-requires c = rw c.members_of-left.ensures (set_node (ready_wf c.requires) c.args.s.0 c.requires.fit.0).few
+
+pub slice_bounds-term_node-end : goal.slice_bounds-term_node-end
+slice_bounds-term_node-end c = holds-length c.common-n.ensures
+
+pub returns : goal.returns
+returns c = picked c.term_node.ensures (rw (c.type_of-ty.ensures, c.common-n.ensures.front, c.members_of-left.ensures, c.members_of-right.ensures))

@@ -1,0 +1,45 @@
+use borrow.Author.Rules.{rules}
+use mathlib.Core.Path.{refl, ap}
+use Rattle.factory.specs.Core.{ite_t}
+use Rattle.factory.specs.Fit.{Typed, Alike}
+use Rattle.factory.specs.Helpers.{none_or}
+use Rattle.factory.proofs.Calls.{ready_wf, ready_next}
+use Rattle.factory.proofs.Choice.{ite_law}
+use Rattle.factory.proofs.Law.{typed_ext}
+use Rattle.factory.proofs.Made.{none_law}
+use Rattle.factory.proofs.Operands.{opt_of, alike, opt_type}
+use Rattle.nodes.specs.Replies.{term_reply}
+use Rattle.arena.specs.Meaning.{ty_of}
+use Rattle.arena.specs.Values.{tbool}
+use Rattle.arena.proofs.Steps.{did_then, did_stop, picked}
+use borrow.Author.Rules.{rules}
+use Rattle.factory_helpers.proofs.none_or.Goals as goal
+
+pub elem_of-ty-requires : goal.elem_of-ty-requires
+elem_of-ty-requires c = record { arena = c.requires.arena; fit = c.requires.fit.1.isterm }
+
+pub none_of-requires : goal.none_of-requires
+none_of-requires c = record { arena = c.requires.arena; fit = rw c.elem_of-ty.ensures (opt_type (ready_wf c.requires) c.args.t.0 c.requires.fit.1) }
+
+pub ite-requires : goal.ite-requires
+ite-requires c =
+    let s = c.requires in
+    let w = ready_wf s in
+    let o = opt_of w c.args.t.0 s.fit.1 in
+    let l = none_law w {L = Unit {0}} c.elem_of-ty.result.0 (rw c.elem_of-ty.ensures (opt_type w c.args.t.0 s.fit.1)) (ap (ty_of _) c.elem_of-ty.ensures) in
+    ready_next (λ a n. Typed a tbool c.args.g.0 × Alike a n c.args.t.0) (ap term_reply c.in-At.is) c.none_of.ensures s.arena l.wf
+    (typed_ext w l.ext s.fit.0, alike l.typed (typed_ext w l.ext o))
+
+pub returns-in-At : goal.returns-in-At
+unfolding none_or
+returns-in-At c = picked (did_then (ap term_reply c.in-At.is) c.none_of.ensures (λ b n. ite_t b c.args.g.0 n c.args.t.0) c.ite.ensures) (rw c.elem_of-ty.ensures)
+
+pub returns-in-Full : goal.returns-in-Full
+unfolding none_or
+returns-in-Full c =
+    let s = c.requires in
+    let w = ready_wf s in
+    let o = opt_of w c.args.t.0 s.fit.1 in
+    let l = none_law w {L = Unit {0}} _ (opt_type w c.args.t.0 s.fit.1) refl in
+    did_stop (ap term_reply c.in-Full.is) c.none_of.ensures
+    (rw c.elem_of-ty.ensures (ite_law l.wf c.args.g.0 _ c.args.t.0 (typed_ext w l.ext s.fit.0) l.typed (typed_ext w l.ext o)).ext)

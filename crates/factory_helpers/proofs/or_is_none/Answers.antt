@@ -1,0 +1,38 @@
+use borrow.Author.Rules.{rules}
+use mathlib.Core.Path.{ap}
+use Rattle.factory.specs.Core.{or_t}
+use Rattle.factory.specs.Fit.{Typed}
+use Rattle.factory.specs.Helpers.{or_is_none}
+use Rattle.factory.proofs.Calls.{ready_wf, ready_next}
+use Rattle.factory.proofs.Law.{typed_ext}
+use Rattle.factory.proofs.Logic.{or_law}
+use Rattle.factory.proofs.Operands.{opt_of}
+use Rattle.factory.proofs.Options.{is_none_law}
+use Rattle.nodes.specs.Replies.{term_reply}
+use Rattle.arena.specs.Values.{tbool}
+use Rattle.arena.proofs.Steps.{did_then, did_stop}
+use borrow.Author.Rules.{rules}
+use Rattle.factory_helpers.proofs.or_is_none.Goals as goal
+
+pub is_none-requires : goal.is_none-requires
+is_none-requires c = record { arena = c.requires.arena; fit = c.requires.fit.0 }
+
+pub or-requires : goal.or-requires
+or-requires c =
+    let s = c.requires in
+    let w = ready_wf s in
+    let l = is_none_law w c.args.g.0 (opt_of w c.args.g.0 s.fit.0) in
+    ready_next (λ a n. Typed a tbool n × Typed a tbool c.args.acc.0) (ap term_reply c.in-At.is) c.is_none.ensures s.arena l.wf
+    (l.typed, typed_ext w l.ext s.fit.1)
+
+pub returns-in-At : goal.returns-in-At
+unfolding or_is_none
+returns-in-At c = did_then (ap term_reply c.in-At.is) c.is_none.ensures (λ b n. or_t b n c.args.acc.0) c.or.ensures
+
+pub returns-in-Full : goal.returns-in-Full
+unfolding or_is_none
+returns-in-Full c =
+    let s = c.requires in
+    let w = ready_wf s in
+    let l = is_none_law w c.args.g.0 (opt_of w c.args.g.0 s.fit.0) in
+    did_stop (ap term_reply c.in-Full.is) c.is_none.ensures (or_law l.wf _ c.args.acc.0 l.typed (typed_ext w l.ext s.fit.1)).ext

@@ -1,0 +1,46 @@
+use mathlib.Core.Path.{◌≡◌, refl, sym, ◌∙◌}
+use Prim.Native.Nat.{◌+◌, ◌-◌, ◌≤◌}
+use native.Mathlib.Omega.{arith}
+use mathlib.Core.Bool.{true}
+use lib.ListN.{length, drop}
+use Rattle.arena.specs.Lists.{all, any}
+use Rattle.arena.specs.Cells.{used}
+use Rattle.arena.specs.WellFormed.{is_term}
+use Rattle.runs.specs.Strides.{heads}
+use Rattle.table.specs.Forms.{misfit}
+use Rattle.table.proofs.Suits.{any_hit, any_miss, any_end, all_here, all-next}
+use Rattle.refusals.proofs.any_misfits.Goals as goal
+
+pub loop-i-init : goal.loop-i-init
+loop-i-init c = (refl, c.requires.xs_value, omega arith)
+
+pub offset_bounds-xs-i : goal.offset_bounds-xs-i
+offset_bounds-xs-i c = omega arith
+
+pub bounds-xs-i : goal.bounds-xs-i
+bounds-xs-i c = omega arith
+
+pub misfits-requires : goal.misfits-requires
+misfits-requires c =
+    record { below = c.requires.below; x_value = all_here _ c.loop-i.i (is_term (used c.args.cells.now c.args.mark)) c.args.step c.requires.le_step.0 c.requires.le_step.1 (omega arith) c.loop-i.invariant.1 }
+
+pub returns-then-misfits : goal.returns-then-misfits
+returns-then-misfits c =
+    sym (c.loop-i.invariant.0 ∙ any_hit _ c.loop-i.i (misfit (used c.args.cells.now c.args.mark) c.args.named) c.args.step c.requires.le_step.0 c.requires.le_step.1 (omega arith) (sym c.misfits.ensures ∙ c.if-misfits.true))
+
+pub overflow_add-i : goal.overflow_add-i
+overflow_add-i c = omega arith
+
+pub loop-i-smaller : goal.loop-i-smaller
+loop-i-smaller c = omega arith
+
+pub loop-i-preserved : goal.loop-i-preserved
+loop-i-preserved c = (
+  c.loop-i.invariant.0 ∙ any_miss _ c.loop-i.i (misfit (used c.args.cells.now c.args.mark) c.args.named) c.args.step c.requires.le_step.0 c.requires.le_step.1 (omega arith) (sym c.misfits.ensures ∙ c.if-misfits.false),
+  all-next _ c.loop-i.i (is_term (used c.args.cells.now c.args.mark)) c.args.step c.requires.le_step.0 c.requires.le_step.1 (omega arith) c.loop-i.invariant.1,
+  omega arith,
+)
+
+pub returns : goal.returns
+returns c =
+    sym (c.loop-i.invariant.0 ∙ any_end _ c.loop-i.i (misfit (used c.args.cells.now c.args.mark) c.args.named) c.args.step c.requires.le_step.0 c.requires.le_step.1 (omega arith))

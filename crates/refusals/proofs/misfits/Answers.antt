@@ -1,0 +1,18 @@
+use borrow.Author.Rules.{rules}
+use Rattle.arena.proofs.Chain.{term_pos}
+use Rattle.table.proofs.Suits.{type_pos}
+use Rattle.refusals.proofs.misfits.Goals as goal
+
+pub type_of-ty-requires : goal.type_of-ty-requires
+type_of-ty-requires c =
+    record { below = c.requires.below; bound = term_pos _ _ c.requires.x_value }
+
+pub kind_of-requires : goal.kind_of-requires
+kind_of-requires c =
+    record { below = c.requires.below; bound = rw c.type_of-ty.ensures (type_pos c.requires.below _ c.requires.x_value) }
+
+pub returns-in-Type : goal.returns-in-Type
+returns-in-Type c = cc
+
+pub returns-in-Kind : goal.returns-in-Kind
+returns-in-Kind c = cc

@@ -1,0 +1,22 @@
+use Rattle.arena.proofs.Chain.{term_pos}
+use Rattle.table.proofs.Suits.{type_pos}
+use Rattle.refusals.proofs.no_member.Goals as goal
+
+pub type_of-set-requires : goal.type_of-set-requires
+type_of-set-requires c =
+    record { below = c.requires.below; bound = term_pos _ _ c.requires.y_value }
+
+pub arg_of-elem-requires : goal.arg_of-elem-requires
+arg_of-elem-requires c =
+    record { below = c.requires.below; bound = rw c.type_of-set.ensures (type_pos c.requires.below _ c.requires.y_value) }
+
+pub kind_of-requires : goal.kind_of-requires
+kind_of-requires c =
+    record { below = c.requires.below; bound = rw c.type_of-set.ensures (type_pos c.requires.below _ c.requires.y_value) }
+
+pub misfits-requires : goal.misfits-requires
+misfits-requires c =
+    record { below = c.requires.below; x_value = c.requires.x_value }
+
+pub returns : goal.returns
+returns c = cc

@@ -1,0 +1,16 @@
+use mathlib.Core.Path.{sym, ◌∙◌}
+use Prim.Native.Nat.{◌≤◌, ◌-◌}
+use native.Mathlib.Omega.{arith}
+use Rattle.arena.proofs.Scan.{Scan, scan_fits, scan_hit, scan_miss, scan_end, find_absent}
+use Rattle.arena.proofs.Formed.{none_absent}
+use Rattle.arena.specs.Cells.{used, node_here}
+use Rattle.wellformed.proofs.Last.{from_last}
+use Rattle.wellformed.proofs.is_new.Given as goal
+
+abbrev pub invariant-loop-p : goal.invariant-loop-p
+invariant-loop-p l = Scan l.cells l.q (node_here l.cells l.q) l.p × (l.p ≤ l.q)
+
+abbrev pub decreases-loop-p : goal.decreases-loop-p
+decreases-loop-p l = l.q - l.p
+
+-- the l.cells up to the l.last member are there
