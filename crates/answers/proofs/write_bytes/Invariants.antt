@@ -1,0 +1,18 @@
+-- The bytes that are left, stored from the next place on, give the whole.
+use borrow.Author.Rules.{rules}
+use mathlib.Core.Path.{◌≡◌, refl, ◌∙◌}
+use native.Mathlib.Nat.{add-zero}
+use native.Mathlib.Omega.{arith}
+use Prim.Native.Nat.{◌+◌, ◌-◌, ◌≤◌}
+use lib.ListN.{length, get_or, drop, length-set}
+use lib.Seq.{sets}
+use Rattle.answers.proofs.Turns.{byte_more, byte_end}
+use Rattle.codec.proofs.Putting.{sets_puts}
+use Rattle.answers.proofs.write_bytes.Given as goal
+
+abbrev pub invariant-loop-i : goal.invariant-loop-i
+invariant-loop-i l =
+    (l.i ≤ length l.bytes) × (length l.out ≡ length l.initial.out) × (sets l.out (l.at + l.i) (drop l.i l.bytes) ≡ sets l.initial.out l.at l.bytes)
+
+abbrev pub decreases-loop-i : goal.decreases-loop-i
+decreases-loop-i l = length l.bytes - l.i

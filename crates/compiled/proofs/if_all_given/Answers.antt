@@ -1,0 +1,38 @@
+use borrow.Author.Rules.{rules}
+use mathlib.Core.Bool.{true}
+use mathlib.Core.Path.{◌≡◌, ap}
+use Rattle.compiler.specs.Compiler.{if_all_given}
+use Rattle.factory.specs.Fit.{Options}
+use Rattle.factory.specs.Helpers.{if_all_some}
+use Rattle.factory.proofs.Calls.{ready_wf, ready_next}
+use Rattle.factory.proofs.Guards.{options_ext, if_all_some_law}
+use Rattle.factory.proofs.Law.{typed_self}
+use Rattle.factory.proofs.Made.{some_law}
+use Rattle.nodes.specs.Replies.{term_reply}
+use Rattle.arena.specs.WellFormed.{is_term}
+use Rattle.arena.proofs.Steps.{did_then, did_stop}
+use borrow.Author.Rules.{rules}
+use Rattle.compiled.proofs.if_all_given.Goals as goal
+
+pub some_of-requires : goal.some_of-requires
+some_of-requires c = record { arena = c.requires.arena; fit = c.requires.fit.1 }
+
+pub if_all_some-requires : goal.if_all_some-requires
+if_all_some-requires c =
+    let s = c.requires in
+    let w = ready_wf s in
+    let l = some_law w c.args.r.0 (typed_self c.args.r.0 s.fit.1) in
+    ready_next (λ a n. Options a c.args.gs.now × is_term a n ≡ true) (ap term_reply c.in-At.is) c.some_of.ensures s.arena l.wf
+    (options_ext w l.ext l.wf c.args.gs.now s.fit.0, l.typed.isterm)
+
+pub returns-in-At : goal.returns-in-At
+unfolding if_all_given
+returns-in-At c = did_then (ap term_reply c.in-At.is) c.some_of.ensures (λ b s. if_all_some b c.args.gs.now s) c.if_all_some.ensures
+
+pub returns-in-Full : goal.returns-in-Full
+unfolding if_all_given
+returns-in-Full c =
+    let s = c.requires in
+    let w = ready_wf s in
+    let l = some_law w c.args.r.0 (typed_self c.args.r.0 s.fit.1) in
+    did_stop (ap term_reply c.in-Full.is) c.some_of.ensures (if_all_some_law l.wf c.args.gs.now (options_ext w l.ext l.wf c.args.gs.now s.fit.0) _ l.typed).ext
