@@ -6,7 +6,7 @@
 ghost use Rattle.std.specs.Prelude.{◌+◌, ◌≤◌, ◌<◌};
 
 use arena::cells::{is_term, is_type};
-use libc::STDOUT_FILENO;
+use std::io;
 use walks::{has_fields, is_literal, set_free};
 use wellformed::is_formed;
 
@@ -128,43 +128,50 @@ fn top_term(room: usize, kind: u64, size: usize, variable: bool) -> u8
     answer(&cells, mark, mark - size)
 }
 
-fn tell(text: &[u8], answer: u8) {
-    io::write_all(STDOUT_FILENO, text);
-    let line = [answer, b'\n'];
-    io::write_all(STDOUT_FILENO, &line);
+fn tell(rt: &impl Print, text: &[u8], answer: u8) -> io::Result<()> {
+    rt.write_all(text)?;
+    rt.write_all(&[answer, b'\n'])
 }
 
-fn main() {
+fn main(rt: HostRuntime) -> io::Result<()> {
     tell(
+        &rt,
         b"a set in records of records: ",
         top_type(65536, 5, 8, false),
-    );
+    )?;
     tell(
+        &rt,
         b"a set in the deepest Option: ",
         top_type(65536, 3, 5, false),
-    );
+    )?;
     tell(
+        &rt,
         b"records of records over false, literal: ",
         top_term(65536, 5, 8, false),
-    );
+    )?;
     tell(
+        &rt,
         b"the deepest Some over false, literal: ",
         top_term(65536, 3, 5, false),
-    );
+    )?;
     tell(
+        &rt,
         b"a set in records of records over a set: ",
         top_type(8192, 5, 8, true),
-    );
+    )?;
     tell(
+        &rt,
         b"a set in a deep Option over a set: ",
         top_type(8192, 3, 5, true),
-    );
+    )?;
     tell(
+        &rt,
         b"records of records over a variable, literal: ",
         top_term(8192, 5, 8, true),
-    );
+    )?;
     tell(
+        &rt,
         b"a deep Some over a variable, literal: ",
         top_term(8192, 3, 5, true),
-    );
+    )
 }

@@ -3,7 +3,8 @@
 
 #![tactic(auto)]
 
-use libc::{STDIN_FILENO, STDOUT_FILENO};
+use std::io;
+use std::io::Read;
 use vectors::{Count, Replay};
 
 #[derive(Clone, Copy)]
@@ -13,66 +14,60 @@ struct Turn {
 }
 
 // Reads once, and replays what came.
-fn read_some(replay: Replay) -> Turn {
-    let mut buf = io::large_buffer();
-    let got = libc::read(STDIN_FILENO, &mut buf);
-    if got <= 0 {
-        return Turn {
+fn read_some(input: &mut impl Read, replay: Replay) -> io::Result<Turn> {
+    let mut buf = [0u8; 65536];
+    let n = input.read(&mut buf)?;
+    if n == 0 {
+        return Ok(Turn {
             more: false,
             replay,
-        };
+        });
     }
-    let n = io::count(got, &buf);
-    Turn {
+    Ok(Turn {
         more: true,
         replay: vectors::feed(replay, &buf[..n]),
-    }
+    })
 }
 
-// A proved loop has to end, and nothing says that the input does. So the loop counts its turns down, from a number that no
-// run uses up.
-fn read_all() -> Replay {
+// A proved loop has to end, and nothing says that the input does. So the loop counts its turns, to a number that no run reaches.
+fn read_all(input: &mut impl Read) -> io::Result<Replay> {
     let mut turn = Turn {
         more: true,
         replay: vectors::start(),
     };
-    let mut turns: u64 = 0xffff_ffff_ffff_ffff;
-    while turns > 0 && turn.more {
-        turn = read_some(turn.replay);
-        turns -= 1;
+    for _ in 0..u64::MAX {
+        if !turn.more {
+            break;
+        }
+        turn = read_some(input, turn.replay)?;
     }
-    vectors::finish(turn.replay)
+    Ok(vectors::finish(turn.replay))
 }
 
-fn print_count(name: &[u8], count: Count) {
-    io::write_all(STDOUT_FILENO, name);
-    io::print_decimal(STDOUT_FILENO, count.compared);
-    io::write_all(STDOUT_FILENO, b" compared, ");
-    io::print_decimal(STDOUT_FILENO, count.different);
-    io::write_all(STDOUT_FILENO, b" different\n");
+fn print_count(rt: &impl Print, name: &[u8], count: Count) -> io::Result<()> {
+    let (compared, different) = (count.compared, count.different);
+    rt.write_all(name)?;
+    println!(rt; "{compared} compared, {different} different")
 }
 
 // Nothing for 0, which is the number of no line.
-fn print_line(number: u64) {
+fn print_line(rt: &impl Print, number: u64) -> io::Result<()> {
     if number > 0 {
-        io::write_all(STDOUT_FILENO, b"different: line ");
-        io::print_decimal(STDOUT_FILENO, number);
-        io::write_all(STDOUT_FILENO, b"\n");
+        println!(rt; "different: line {number}")?;
     }
+    Ok(())
 }
 
-fn print_lines(numbers: [u64; 8]) {
-    let mut i: usize = 0;
-    while i < 8 {
-        print_line(numbers[i]);
-        i += 1;
+fn print_lines(rt: &impl Print, numbers: [u64; 8]) -> io::Result<()> {
+    for number in numbers {
+        print_line(rt, number)?;
     }
+    Ok(())
 }
 
-fn main() {
-    let replay = read_all();
-    print_count(b"original: ", replay.original);
-    print_count(b"solver: ", replay.solver);
-    let shown = replay.shown;
-    print_lines(shown);
+fn main(rt: HostRuntime) -> io::Result<()> {
+    let replay = read_all(&mut rt.stdin())?;
+    print_count(&rt, b"original: ", replay.original)?;
+    print_count(&rt, b"solver: ", replay.solver)?;
+    print_lines(&rt, replay.shown)
 }

@@ -6,7 +6,7 @@
 ghost use Rattle.std.specs.Prelude.{◌<◌, ◌≤◌, length};
 
 use codec::{Number, Written};
-use libc::{STDIN_FILENO, STDOUT_FILENO};
+use std::io;
 
 // The bytes that a line of hex stands for; `good` is false where it stands for none.
 #[derive(Clone, Copy)]
@@ -27,89 +27,84 @@ fn part(s: &[u8], from: usize, to: usize) -> &[u8] {
     &s[from..to]
 }
 
-fn say_ok(first: u64, second: u64) {
+fn say_ok(rt: &impl Print, first: u64, second: u64) -> io::Result<()> {
     let mut line = [0u8; 45];
     let n = answers::write_ok(&mut line, 0, first, second);
-    io::write_all(STDOUT_FILENO, part(&line, 0, n));
+    rt.write_all(part(&line, 0, n))
 }
 
-fn say_refused(number: u64) {
+fn say_refused(rt: &impl Print, number: u64) -> io::Result<()> {
     let mut line = [0u8; 29];
     let n = answers::write_refused(&mut line, 0, number);
-    io::write_all(STDOUT_FILENO, part(&line, 0, n));
+    rt.write_all(part(&line, 0, n))
 }
 
 // A number that was read, written again at another place, has the bytes that were read: else `refused 1`.
-fn write_again(s: &[u8], value: u64, next: usize) {
+fn write_again(rt: &impl Print, s: &[u8], value: u64, next: usize) -> io::Result<()> {
     let mut out = [0u8; 16];
     let Written::Behind(end) = codec::write_number(&mut out, 3, value) else {
-        say_refused(1);
-        return;
+        return say_refused(rt, 1);
     };
     if !check::same(part(&out, 3, end), part(s, 0, next)) {
-        say_refused(1);
+        return say_refused(rt, 1);
     }
+    Ok(())
 }
 
 // The number at the start: its value, and where it ends.
-fn say_number(s: &[u8]) {
+fn say_number(rt: &impl Print, s: &[u8]) -> io::Result<()> {
     match codec::read_number(s, 0) {
         Number::Read(value, next) => {
-            say_ok(value, next as u64);
-            write_again(s, value, next);
+            say_ok(rt, value, next as u64)?;
+            write_again(rt, s, value, next)
         }
-        Number::Bad => say_refused(10),
+        Number::Bad => say_refused(rt, 10),
     }
 }
 
-fn say_operands(operands: [u64; 257], count: u64) {
-    let mut i: u64 = 0;
-    while i < 257 {
+fn say_operands(rt: &impl Print, operands: [u64; 257], count: u64) -> io::Result<()> {
+    for i in 0..257u64 {
         if i < count {
-            say_ok(i, operands[i as usize]);
+            say_ok(rt, i, operands[i as usize])?;
         }
-        i += 1;
     }
+    Ok(())
 }
 
 // The instruction at the start: operation and parameter, count and end, then each operand behind its index.
-fn say_instruction(s: &[u8]) {
+fn say_instruction(rt: &impl Print, s: &[u8]) -> io::Result<()> {
     let d = codec::read_instruction(s, 0);
     if !d.good {
-        say_refused(10);
-        return;
+        return say_refused(rt, 10);
     }
     let i = d.instruction;
-    say_ok(i.operation, i.parameter);
-    say_ok(i.count, d.next as u64);
+    say_ok(rt, i.operation, i.parameter)?;
+    say_ok(rt, i.count, d.next as u64)?;
     let operands = i.operands;
-    say_operands(operands, i.count);
+    say_operands(rt, operands, i.count)
 }
 
 // The pairs that begin with a byte: the sum of their values and ends, and how many are numbers.
-fn say_pairs(first: u64)
+fn say_pairs(rt: &impl Print, first: u64) -> io::Result<()>
     requires { first < 256 }
 {
     let mut sum: u64 = 0;
     let mut numbers: u64 = 0;
-    let mut second: u64 = 0;
-    while second < 256 {
+    for second in 0..256u64 {
         let pair = [first as u8, second as u8];
         if let Number::Read(value, next) = codec::read_number(&pair, 0) {
             sum = std::num::wrapping_add_u64(sum, std::num::wrapping_add_u64(value, next as u64));
             numbers = std::num::wrapping_add_u64(numbers, 1);
         }
-        second += 1;
     }
-    say_ok(sum, numbers);
+    say_ok(rt, sum, numbers)
 }
 
-fn say_all_pairs() {
-    let mut first: u64 = 0;
-    while first < 256 {
-        say_pairs(first);
-        first += 1;
+fn say_all_pairs(rt: &impl Print) -> io::Result<()> {
+    for first in 0..256u64 {
+        say_pairs(rt, first)?;
     }
+    Ok(())
 }
 
 // The byte at a place, and 0 past the end.
@@ -164,22 +159,20 @@ fn unhex(s: &[u8]) -> Line {
 }
 
 // A line: `n` or `i`, and the bytes in hex. Another is `refused 2`.
-fn say_line(s: &[u8]) {
+fn say_line(rt: &impl Print, s: &[u8]) -> io::Result<()> {
     if s.len() == 0 {
-        say_refused(2);
-        return;
+        return say_refused(rt, 2);
     }
     let line = unhex(&s[1..]);
     let used = line.used;
     let bytes = line.bytes;
     if !line.good {
-        say_refused(2);
-        return;
+        return say_refused(rt, 2);
     }
     match s[0] {
-        b'n' => say_number(part(&bytes, 0, used)),
-        b'i' => say_instruction(part(&bytes, 0, used)),
-        _ => say_refused(2),
+        b'n' => say_number(rt, part(&bytes, 0, used)),
+        b'i' => say_instruction(rt, part(&bytes, 0, used)),
+        _ => say_refused(rt, 2),
     }
 }
 
@@ -198,18 +191,19 @@ fn line_end(s: &[u8], from: usize) -> usize
     at
 }
 
-fn say_lines(s: &[u8]) {
+fn say_lines(rt: &impl Print, s: &[u8]) -> io::Result<()> {
     let mut at: usize = 0;
     while at < s.len() {
         let end = line_end(s, at);
-        say_line(&s[at..end]);
+        say_line(rt, &s[at..end])?;
         at = end + 1;
     }
+    Ok(())
 }
 
-fn main() {
-    say_all_pairs();
+fn main(rt: HostRuntime) -> io::Result<()> {
+    say_all_pairs(&rt)?;
     let mut input = [0u8; 131072];
-    let n = io::read_full(STDIN_FILENO, &mut input);
-    say_lines(&input[..n]);
+    let n = reading::read_full(&mut rt.stdin(), &mut input)?;
+    say_lines(&rt, &input[..n])
 }

@@ -4,7 +4,7 @@
 
 ghost use Rattle.std.specs.Prelude.{◌≤◌, ◌<◌};
 
-use libc::STDOUT_FILENO;
+use std::io;
 
 // Bool, false, true; Bitvec 2, Option, Set and Record (1: Bool, 3: Bitvec 2); two literals, a Some, a set, a record, a variable, an
 // add, a record_get; and four cells past the mark.
@@ -44,7 +44,7 @@ fn digit(n: u64, unit: u64) -> u8
 }
 
 // The cell, how many numbers are accepted there, and their sum.
-fn tell(i: u64, count: u64, sum: u64) {
+fn tell(rt: &impl Print, i: u64, count: u64, sum: u64) -> io::Result<()> {
     let line = [
         digit(i, 10),
         digit(i, 1),
@@ -60,10 +60,10 @@ fn tell(i: u64, count: u64, sum: u64) {
         digit(sum, 1),
         10,
     ];
-    io::write_all(STDOUT_FILENO, &line);
+    rt.write_all(&line)
 }
 
-fn try_cell(i: usize)
+fn try_cell(rt: &impl Print, i: usize) -> io::Result<()>
     requires { i < 80 }
 {
     let mut count: u64 = 0;
@@ -77,14 +77,14 @@ fn try_cell(i: usize)
         v += 1;
     }
     if count > 0 {
-        tell(i as u64, count, sum);
+        tell(rt, i as u64, count, sum)?;
     }
+    Ok(())
 }
 
-fn main() {
-    let mut i: usize = 0;
-    while i < 80 {
-        try_cell(i);
-        i += 1;
+fn main(rt: HostRuntime) -> io::Result<()> {
+    for i in 0..80 {
+        try_cell(&rt, i)?;
     }
+    Ok(())
 }
