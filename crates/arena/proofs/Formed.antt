@@ -13,13 +13,10 @@ use Rattle.arena.specs.Lists.{every, all, same_list}
 use Rattle.arena.specs.Nodes.{Node, node, Nodes, mark, over, node_at, positions, same, find, fresh}
 use Rattle.arena.specs.Cells.{cells, parse, used}
 use Rattle.arena.specs.WellFormed.{fewest, most, placed, type_test, maker_test, kind_test, good_node, is_fresh, starts_fresh, good_nodes, absent, distinct, well_formed, filled, formed, Below, IsArena}
-use Rattle.arena.specs.Values.{fits}
 use Rattle.arena.proofs.Bools.{t≢f, or_right, or_cases, both_ways, every-all, all-every}
 use Rattle.arena.proofs.Ext.{Ext, ext_same, ext_more, mark-fresh, mark_ext}
 use Rattle.arena.proofs.Chain.{Chain, nil, link, WF, link_is}
 use Rattle.arena.proofs.Put.{same-node}
-use Rattle.arena.proofs.Known.{B}
-use Rattle.arena.proofs.Built.{reads}
 use Rattle.arena.proofs.Flat.{length-cells, cells-parse}
 
 -- ---- an arena

@@ -8,7 +8,7 @@ use lib.ListN.{length, get_or, set, replicate, length-set, length-replicate, get
 use lib.Seq.{get_or-set_same, get_or-set_other}
 use lib.Dec.{eqb, leb}
 use borrow.Author.Tests.{eqb-true, eqb-false, leb-true, leb-false}
-use Rattle.arena.specs.Nodes.{Node, node, Nodes, mark, kind_at, T, fresh}
+use Rattle.arena.specs.Nodes.{Node, node, Nodes, mark, kind_at, fresh}
 use Rattle.arena.specs.Cells.{used, node_here, after}
 use Rattle.arena.specs.WellFormed.{fewest, good_node, Below}
 use Rattle.arena.specs.Lent.{Starts, Sure}

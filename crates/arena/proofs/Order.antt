@@ -6,7 +6,7 @@ use mathlib.Core.Bool.{true, false, cond}
 use mathlib.Core.Logic.{◌⊎◌, inl, inr}
 use lib.Dec.{eqb, is_le}
 use borrow.Author.Tests.{eqb-true, eqb-false, leb-true, leb-false}
-use Rattle.arena.specs.Values.{Value, bool, bits, vnone, vsome, vset, vrec, Values, vnil, vcons, VFields, fnil, fcons, Tree, leaf, fork, code, codes, codef, then_by, compare_t, is_eq}
+use Rattle.arena.specs.Values.{Value, bool, bits, vnone, vsome, vset, vrec, Values, vnil, vcons, VFields, fnil, fcons, Tree, leaf, fork, code, codes, codef, then_by, compare_t}
 use lib.Dec
 
 -- ---- the value of a tree

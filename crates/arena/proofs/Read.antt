@@ -13,12 +13,10 @@ use Rattle.arena.specs.Lists.{odds}
 use Rattle.arena.specs.Nodes.{header, Node, nowhere, Nodes, mark, node_at, kind_at, type_at, par_at, mem_at, paired, positions, args}
 use Rattle.arena.specs.Cells.{cells_of, used, node_here, after}
 use Rattle.arena.specs.WellFormed.{Below}
-use Rattle.arena.specs.Values.{fits}
 use Rattle.arena.proofs.Runs.{odds-length, odds-at}
 use Rattle.arena.proofs.Ext.{mark_nil, mark-cons, mark_ext, node_new, node_old, node_far, node_eq}
 use Rattle.arena.proofs.Chain.{Chain, nil, link, no_node, place}
 use Rattle.arena.proofs.View.{good_pos}
-use Rattle.arena.proofs.Known.{B}
 use Rattle.arena.proofs.Flat.{cell_at}
 use Rattle.arena.proofs.Formed.{wf, cells_are, mark_is}
 

@@ -12,7 +12,6 @@ use Rattle.arena.specs.Cells.{used}
 use Rattle.arena.specs.Walks.{Verdict, pass, fail, ask, said, ruled, walked, lit_rule, free_rule}
 use Rattle.arena.specs.WellFormed.{Below}
 use Rattle.arena.proofs.Chain.{walked_at}
-use Rattle.arena.proofs.Known.{B}
 use Rattle.arena.proofs.Formed.{wf}
 use Rattle.arena.proofs.Read.{read_kind}
 

@@ -11,7 +11,6 @@ use Rattle.arena.specs.Cells.{used, node_here, after}
 use Rattle.arena.specs.WellFormed.{absent, Below}
 use Rattle.arena.proofs.Ext.{Ext, ext_same, ext_more, ext_all, mark_nil, mark-cons, mark_more, mark_ext}
 use Rattle.arena.proofs.Put.{same-node, find_at}
-use Rattle.arena.proofs.Known.{B}
 use Rattle.arena.proofs.Formed.{wf, mark_is}
 use Rattle.arena.proofs.Read.{read_count, after_end, here-at}
 use Rattle.arena.proofs.Tiling.{Next, next, next-there, next_pos}

@@ -14,7 +14,6 @@ use Rattle.arena.proofs.Ext.{Ext, ext_same, ext_more, mark-fresh, mark_more, mar
 use Rattle.arena.proofs.Chain.{Chain, link, chain_older, link_is}
 use Rattle.arena.proofs.View.{good_pos}
 use Rattle.arena.proofs.Known.{B}
-use Rattle.arena.proofs.Built.{reads}
 use Rattle.arena.proofs.Flat.{length-cells, parse_on_lem, parse-cells, parse_ext, ext_cells}
 use Rattle.arena.proofs.Formed.{absent_none, none_absent, fresh_wf, used_is, wf, cells_are, mark_is, below_of}
 use Rattle.arena.proofs.Read.{after_end, here-at}

@@ -14,7 +14,7 @@ use Rattle.arena.proofs.FreshCells.{made_used, made_arena}
 use Rattle.instruction.specs.Instruction.{Instr}
 use Rattle.codec.specs.Instructions.{whole, bad, instruction_at}
 use Rattle.codec.specs.Writing.{put, Puts}
-use Rattle.answers.specs.Lines.{ok_line, refused_line}
+use Rattle.answers.specs.Lines.{refused_line}
 use Rattle.codec.proofs.Putting.{length-put, puts_puts}
 use Rattle.table.specs.Call.{Reply}
 use Rattle.table.specs.Answers.{reply_of, Answered, mark_after}

@@ -1,4 +1,3 @@
-use borrow.Author.Rules.{rules}
 use mathlib.Core.Path.{sym, ap}
 use Rattle.table.specs.Answers.{reply_of, mark_after}
 use Rattle.table.specs.declared.Answer.{Answer}

@@ -1,4 +1,3 @@
-use borrow.Author.Rules.{rules}
 use Rattle.answers.proofs.Said.{line_accepted, line_refused}
 use Rattle.answers.proofs.write_answer.Goals as goal
 

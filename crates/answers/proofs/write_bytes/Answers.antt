@@ -1,10 +1,9 @@
 use borrow.Author.Rules.{rules}
-use mathlib.Core.Path.{◌≡◌, refl, ◌∙◌}
+use mathlib.Core.Path.{refl, ◌∙◌}
 use native.Mathlib.Nat.{add-zero}
 use native.Mathlib.Omega.{arith}
-use Prim.Native.Nat.{◌+◌, ◌-◌, ◌≤◌}
-use lib.ListN.{length, get_or, drop, length-set}
-use lib.Seq.{sets}
+use Prim.Native.Nat.{◌+◌}
+use lib.ListN.{get_or, length-set}
 use Rattle.answers.proofs.Turns.{byte_more, byte_end}
 use Rattle.codec.proofs.Putting.{sets_puts}
 use Rattle.answers.proofs.write_bytes.Goals as goal

@@ -1,11 +1,7 @@
-use borrow.Author.Rules.{rules}
-use mathlib.Core.Path.{◌≡◌, refl, ◌∙◌}
-use Prim.Native.Nat.{◌+◌, ◌%◌, ◌/◌, ◌<◌}
+use mathlib.Core.Path.{refl, ◌∙◌}
+use Prim.Native.Nat.{◌+◌, ◌%◌, ◌/◌}
 use native.Mathlib.Omega.{arith}
-use lib.ListN.{length, length-set}
-use lib.Seq.{sets}
-use Rattle.codec.specs.Digits.{digits}
-use Rattle.answers.specs.Lines.{decimal}
+use lib.ListN.{length-set}
 use Rattle.codec.proofs.Digits.{digits_some}
 use Rattle.answers.proofs.Turns.{length-decimal, decimal-most, digit_more, digit_end}
 use Rattle.codec.proofs.Putting.{sets_puts}

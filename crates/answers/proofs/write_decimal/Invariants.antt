@@ -1,15 +1,10 @@
 -- The digits that are left, stored from the start, give the whole.
-use borrow.Author.Rules.{rules}
-use mathlib.Core.Path.{◌≡◌, refl, ◌∙◌}
-use Prim.Native.Nat.{◌+◌, ◌%◌, ◌/◌, ◌<◌}
-use native.Mathlib.Omega.{arith}
-use lib.ListN.{length, length-set}
+use mathlib.Core.Path.{◌≡◌}
+use Prim.Native.Nat.{◌+◌, ◌<◌}
+use lib.ListN.{length}
 use lib.Seq.{sets}
 use Rattle.codec.specs.Digits.{digits}
 use Rattle.answers.specs.Lines.{decimal}
-use Rattle.codec.proofs.Digits.{digits_some}
-use Rattle.answers.proofs.Turns.{length-decimal, decimal-most, digit_more, digit_end}
-use Rattle.codec.proofs.Putting.{sets_puts}
 use Rattle.answers.proofs.write_decimal.Given as goal
 
 abbrev pub invariant-loop-rest : goal.invariant-loop-rest

@@ -1,5 +1,4 @@
 use Rattle.answers.proofs.Answers.{puts_field}
-use borrow.Author.Rules.{rules}
 use Rattle.answers.proofs.write_field.Goals as goal
 
 pub returns : goal.returns

@@ -1,7 +1,6 @@
 use native.Mathlib.Omega.{arith}
 use Rattle.answers.specs.Lines.{ok, space}
 use Rattle.answers.proofs.Answers.{field-most, puts_ok}
-use borrow.Author.Rules.{rules}
 use Rattle.answers.proofs.write_ok.Goals as goal
 
 pub write_field-b-requires : goal.write_field-b-requires

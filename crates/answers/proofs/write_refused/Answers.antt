@@ -1,7 +1,6 @@
 use native.Mathlib.Omega.{arith}
 use Rattle.answers.specs.Lines.{refused}
 use Rattle.answers.proofs.Answers.{field-most, puts_refused}
-use borrow.Author.Rules.{rules}
 use Rattle.answers.proofs.write_refused.Goals as goal
 
 pub write_bytes-requires : goal.write_bytes-requires

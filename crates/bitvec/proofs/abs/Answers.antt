@@ -1,4 +1,4 @@
-use Rattle.std.proofs.Common.{sym, ◌∙◌, rules}
+use Rattle.std.proofs.Common.{sym, ◌∙◌}
 use Rattle.smtlib.proofs.Absolute.{abs_high, abs_low}
 use Rattle.bitvec.proofs.abs.Goals as goal
 

@@ -1,4 +1,4 @@
-use Rattle.std.proofs.Common.{◌+◌, ap, ◌∙◌, rules}
+use Rattle.std.proofs.Common.{◌+◌, ap, ◌∙◌}
 use Rattle.smtlib.specs.Theory.{nat2bv, bvadd}
 use Rattle.smtlib.proofs.Word.{mod-mod-le}
 use Rattle.bitvec.proofs.add.Goals as goal

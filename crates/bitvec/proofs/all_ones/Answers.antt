@@ -1,4 +1,4 @@
-use Rattle.std.proofs.Common.{◌≡◌, ℕ, ◌-◌, ◌/◌, ◌^◌, subst, add-sub_of_le, rules}
+use Rattle.std.proofs.Common.{◌≡◌, ℕ, ◌-◌, ◌/◌, ◌^◌, subst, add-sub_of_le}
 use Rattle.smtlib.specs.Theory.{all_ones}
 use Rattle.smtlib.proofs.Word.{ones_shr}
 use Rattle.bitvec.proofs.all_ones.Goals as goal

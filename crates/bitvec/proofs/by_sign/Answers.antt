@@ -1,4 +1,4 @@
-use Rattle.std.proofs.Common.{sym, ◌∙◌, rules}
+use Rattle.std.proofs.Common.{sym, ◌∙◌}
 use Rattle.smtlib.proofs.Tops.{top_lt}
 use Rattle.smtlib.specs.Logic.{top}
 use Rattle.smtlib.proofs.Absolute.{order, same_tops}

@@ -1,4 +1,3 @@
-use Rattle.std.proofs.Common.{rules}
 use Rattle.smtlib.proofs.Word.{half_fits}
 use Rattle.bitvec.proofs.int_min.Goals as goal
 

@@ -1,4 +1,4 @@
-use Rattle.std.proofs.Common.{sym, rules}
+use Rattle.std.proofs.Common.{sym}
 use Rattle.smtlib.proofs.Division.{lshr_in, lshr_out}
 use Rattle.bitvec.proofs.lshr.Goals as goal
 

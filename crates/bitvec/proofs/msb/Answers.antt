@@ -1,4 +1,4 @@
-use Rattle.std.proofs.Common.{ℕ, eqb, sym, ap, rules}
+use Rattle.std.proofs.Common.{ℕ, eqb, sym, ap}
 use Rattle.smtlib.proofs.Tops.{top-div}
 use Rattle.bitvec.proofs.msb.Goals as goal
 

@@ -1,4 +1,4 @@
-use Rattle.std.proofs.Common.{◌∙◌, rules}
+use Rattle.std.proofs.Common.{◌∙◌}
 use Rattle.smtlib.specs.Theory.{bvmul}
 use Rattle.smtlib.proofs.Columns.{low_word}
 use Rattle.bitvec.proofs.mul.Goals as goal

@@ -1,4 +1,3 @@
-use Rattle.std.proofs.Common.{rules}
 use Rattle.smtlib.proofs.Negation.{neg_not}
 use Rattle.bitvec.proofs.neg.Goals as goal
 

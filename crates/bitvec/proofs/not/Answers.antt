@@ -1,4 +1,4 @@
-use Rattle.std.proofs.Common.{ap, rules}
+use Rattle.std.proofs.Common.{ap}
 use lib.Bits.{bit_xor}
 use Rattle.smtlib.specs.Theory.{bvnot}
 use Rattle.bitvec.proofs.not.Goals as goal

@@ -1,4 +1,4 @@
-use Rattle.std.proofs.Common.{ap, ◌∙◌, rules}
+use Rattle.std.proofs.Common.{ap, ◌∙◌}
 use lib.Bits.{bit_and, and_mask}
 use Rattle.smtlib.specs.Theory.{nat2bv, all_ones}
 use Rattle.bitvec.proofs.of_nat.Goals as goal

@@ -1,4 +1,4 @@
-use Rattle.std.proofs.Common.{sym, ap, ◌∙◌, ap₂, rules}
+use Rattle.std.proofs.Common.{sym, ap, ◌∙◌, ap₂}
 use Rattle.smtlib.specs.Theory.{bvneg, bvudiv}
 use Rattle.smtlib.proofs.Below.{bvabs-lt, bvudiv-lt}
 use Rattle.smtlib.proofs.Absolute.{sdiv_abs, same_tops}

@@ -1,4 +1,4 @@
-use Rattle.std.proofs.Common.{◌*◌, ◌^◌, sym, ◌∙◌, rules}
+use Rattle.std.proofs.Common.{◌*◌, ◌^◌, sym, ◌∙◌}
 use Rattle.smtlib.specs.Theory.{nat2bv, bvshl}
 use Rattle.smtlib.proofs.Word.{mod-mod-le, shl_out}
 use Rattle.bitvec.proofs.shl.Goals as goal

@@ -1,4 +1,4 @@
-use Rattle.std.proofs.Common.{ap, ◌∙◌, rules}
+use Rattle.std.proofs.Common.{ap, ◌∙◌}
 use Rattle.smtlib.specs.Logic.{top, by_top, bvsle}
 use Rattle.bitvec.proofs.sle.Goals as goal
 

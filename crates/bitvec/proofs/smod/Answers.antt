@@ -1,4 +1,4 @@
-use Rattle.std.proofs.Common.{ℕ, sym, ap, ◌∙◌, rules, eq-eqb, ne_eqb}
+use Rattle.std.proofs.Common.{ℕ, sym, ap, ◌∙◌, eq-eqb, ne_eqb}
 use Rattle.smtlib.specs.Theory.{bvadd}
 use Rattle.smtlib.proofs.Absolute.{smod_rem, same_tops}
 use Rattle.bitvec.proofs.smod.Goals as goal

@@ -1,4 +1,4 @@
-use Rattle.std.proofs.Common.{sym, ap, ◌∙◌, ap₂, rules}
+use Rattle.std.proofs.Common.{sym, ap, ◌∙◌, ap₂}
 use Rattle.smtlib.specs.Theory.{bvneg, bvurem}
 use Rattle.smtlib.proofs.Below.{bvabs-lt, bvurem-lt}
 use Rattle.smtlib.proofs.Absolute.{srem_abs}

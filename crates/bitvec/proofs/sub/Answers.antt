@@ -1,4 +1,4 @@
-use Rattle.std.proofs.Common.{ap, ◌∙◌, rules}
+use Rattle.std.proofs.Common.{ap, ◌∙◌}
 use Rattle.smtlib.specs.Theory.{bvadd}
 use Rattle.smtlib.specs.Logic.{bvsub}
 use Rattle.bitvec.proofs.sub.Goals as goal

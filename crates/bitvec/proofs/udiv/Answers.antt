@@ -1,4 +1,4 @@
-use Rattle.std.proofs.Common.{sym, ◌∙◌, rules}
+use Rattle.std.proofs.Common.{sym, ◌∙◌}
 use Rattle.smtlib.proofs.Division.{udiv_zero, udiv_some}
 use Rattle.bitvec.proofs.udiv.Goals as goal
 

@@ -1,4 +1,4 @@
-use Rattle.std.proofs.Common.{sym, rules}
+use Rattle.std.proofs.Common.{sym}
 use Rattle.smtlib.proofs.Division.{urem_zero, urem_some}
 use Rattle.bitvec.proofs.urem.Goals as goal
 

@@ -1,4 +1,4 @@
-use Rattle.std.proofs.Common.{◌∙◌, rules}
+use Rattle.std.proofs.Common.{◌∙◌}
 use Rattle.smtlib.proofs.Division.{extended}
 use Rattle.bitvec.proofs.zero_extend.Goals as goal
 

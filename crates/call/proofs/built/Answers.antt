@@ -1,8 +1,6 @@
-use borrow.Author.Rules.{rules}
 use mathlib.Core.Path.{ap, ◌∙◌}
 use Rattle.table.proofs.Entry.{by_built, by_full}
 use Rattle.nodes.specs.Replies.{node_reply}
-use borrow.Author.Rules.{rules}
 use Rattle.call.proofs.built.Goals as goal
 
 pub returns-in-At : goal.returns-in-At

@@ -1,10 +1,8 @@
-use borrow.Author.Rules.{rules}
 use mathlib.Core.Path.{sym, ap, ◌∙◌}
 use Rattle.table.specs.Call.{Lent}
 use Rattle.table.proofs.Entry.{not_formed}
 use Rattle.arena.proofs.Formed.{formed-arena}
 use Rattle.instruction.specs.Instruction.{instr_of}
-use borrow.Author.Rules.{rules}
 use Rattle.call.proofs.call.Goals as goal
 
 pub call_known-requires : goal.call_known-requires

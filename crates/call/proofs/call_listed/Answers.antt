@@ -1,10 +1,8 @@
-use borrow.Author.Rules.{rules}
 use mathlib.Core.Path.{sym, ap, ◌∙◌}
 use Rattle.table.specs.Call.{Lent}
 use Rattle.table.specs.Forms.{instr}
 use Rattle.table.proofs.Entry.{by_refusal, counted}
 use Rattle.arena.specs.Cells.{used}
-use borrow.Author.Rules.{rules}
 use Rattle.call.proofs.call_listed.Goals as goal
 
 pub refusal-number-requires : goal.refusal-number-requires

@@ -1,7 +1,7 @@
 use native.Mathlib.Nat.{div-lt_self}
 use native.Mathlib.Omega.{arith}
 use borrow.Author.Rules.{rules}
-use Rattle.codec.proofs.Turns.{Counting, count_more, count_end}
+use Rattle.codec.proofs.Turns.{count_more, count_end}
 use Rattle.codec.proofs.digit_count.Goals as goal
 
 pub loop-rest-init : goal.loop-rest-init

@@ -1,8 +1,5 @@
 -- What is left has the digits that are not counted.
-use native.Mathlib.Nat.{div-lt_self}
-use native.Mathlib.Omega.{arith}
-use borrow.Author.Rules.{rules}
-use Rattle.codec.proofs.Turns.{Counting, count_more, count_end}
+use Rattle.codec.proofs.Turns.{Counting}
 use Rattle.codec.proofs.digit_count.Given as goal
 
 abbrev pub invariant-loop-rest : goal.invariant-loop-rest

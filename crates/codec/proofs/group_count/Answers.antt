@@ -1,6 +1,5 @@
 use mathlib.Core.Path.{sym, ◌∙◌}
 use Rattle.codec.proofs.Groups.{length-groups}
-use borrow.Author.Rules.{rules}
 use Rattle.codec.proofs.group_count.Goals as goal
 
 pub returns : goal.returns

@@ -1,10 +1,7 @@
-use borrow.Author.Rules.{rules}
-use mathlib.Core.Path.{◌≡◌, refl, ◌∙◌}
+use mathlib.Core.Path.{refl, ◌∙◌}
 use native.Mathlib.Omega.{arith}
 use Prim.Native.Nat.{◌+◌, ◌%◌}
-use lib.ListN.{length, length-set}
-use lib.Seq.{sets}
-use Rattle.codec.specs.Numbers.{groups}
+use lib.ListN.{length-set}
 use Rattle.codec.proofs.Groups.{groups_some}
 use Rattle.codec.proofs.Turns.{group_more, group_end}
 use Rattle.codec.proofs.Putting.{sets_puts}

@@ -1,8 +1,5 @@
-use borrow.Author.Rules.{rules}
 use borrow.Author.Tests.{not-true, not-false}
-use mathlib.Core.Path.{◌≡◌, sym, ap, ◌∙◌}
-use Rattle.codec.specs.declared.Number.TheVariants.{Read}
-use Rattle.codec.specs.Numbers.{number_at}
+use mathlib.Core.Path.{sym, ap, ◌∙◌}
 use Rattle.codec.specs.Instructions.{numbers_at, decoded_of}
 use Rattle.codec.proofs.Stages.{no_operation, no_parameter, no-count, too_many, with_operands, operands-broken, operands-whole}
 use Rattle.codec.proofs.read_instruction.Goals as goal

@@ -1,12 +1,11 @@
 use borrow.Author.Rules.{rules}
 use mathlib.Core.Path.{◌≡◌, sym, ap, ◌∙◌, subst⁻¹}
 use mathlib.Core.Bool.{false, ◌&&◌}
-use Prim.Native.Nat.{ℕ, ◌+◌, ◌-◌}
+use Prim.Native.Nat.{ℕ, ◌+◌}
 use native.Mathlib.Omega.{arith}
 use lib.Dec.{eqb, ltb}
-use lib.ListN.{length, drop}
+use lib.ListN.{drop}
 use Rattle.codec.specs.declared.Number.TheVariants.{Read}
-use Rattle.codec.specs.Numbers.{number_at}
 use Rattle.codec.proofs.Steps.{Begun, begun_more, below_tenth, steps, by_steps, joined, turn_passes, turn_spare, turn_last, turn_more, turn_none}
 use Rattle.codec.proofs.read_number.Goals as goal
 

@@ -1,14 +1,9 @@
 -- The groups that are left give what the whole number gives.
-use borrow.Author.Rules.{rules}
-use mathlib.Core.Path.{◌≡◌, sym, ap, ◌∙◌, subst⁻¹}
-use mathlib.Core.Bool.{false, ◌&&◌}
-use Prim.Native.Nat.{ℕ, ◌+◌, ◌-◌}
-use native.Mathlib.Omega.{arith}
-use lib.Dec.{eqb, ltb}
+use mathlib.Core.Path.{◌≡◌}
+use Prim.Native.Nat.{◌-◌}
 use lib.ListN.{length, drop}
-use Rattle.codec.specs.declared.Number.TheVariants.{Read}
 use Rattle.codec.specs.Numbers.{number_at}
-use Rattle.codec.proofs.Steps.{Begun, begun_more, below_tenth, steps, by_steps, joined, turn_passes, turn_spare, turn_last, turn_more, turn_none}
+use Rattle.codec.proofs.Steps.{Begun, steps}
 use Rattle.codec.proofs.read_number.Given as goal
 
 abbrev pub invariant-loop-next : goal.invariant-loop-next

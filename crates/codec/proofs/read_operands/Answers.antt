@@ -1,11 +1,10 @@
 use borrow.Author.Rules.{rules}
-use mathlib.Core.Path.{◌≡◌, sym, ◌∙◌}
-use Prim.Native.Nat.{◌+◌, ◌-◌, ◌≤◌}
+use mathlib.Core.Path.{sym, ◌∙◌}
+use Prim.Native.Nat.{◌+◌, ◌-◌}
 use native.Mathlib.Omega.{arith}
 use native.Mathlib.Nat.{sub-zero}
-use lib.ListN.{length, length-set}
-use Rattle.codec.specs.Instructions.{numbers_at, operands_of}
-use Rattle.codec.proofs.Filling.{filled, filled-zeros, filled_more, filled-bad, filled-all}
+use lib.ListN.{length-set}
+use Rattle.codec.proofs.Filling.{filled-zeros, filled_more, filled-bad, filled-all}
 use Rattle.codec.proofs.read_operands.Goals as goal
 
 pub loop-read-init : goal.loop-read-init

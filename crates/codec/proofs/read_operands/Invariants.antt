@@ -1,12 +1,9 @@
 -- The numbers that are left fill the array up.
-use borrow.Author.Rules.{rules}
-use mathlib.Core.Path.{◌≡◌, sym, ◌∙◌}
-use Prim.Native.Nat.{◌+◌, ◌-◌, ◌≤◌}
-use native.Mathlib.Omega.{arith}
-use native.Mathlib.Nat.{sub-zero}
-use lib.ListN.{length, length-set}
+use mathlib.Core.Path.{◌≡◌}
+use Prim.Native.Nat.{◌-◌, ◌≤◌}
+use lib.ListN.{length}
 use Rattle.codec.specs.Instructions.{numbers_at, operands_of}
-use Rattle.codec.proofs.Filling.{filled, filled-zeros, filled_more, filled-bad, filled-all}
+use Rattle.codec.proofs.Filling.{filled}
 use Rattle.codec.proofs.read_operands.Given as goal
 
 abbrev pub invariant-loop-read : goal.invariant-loop-read

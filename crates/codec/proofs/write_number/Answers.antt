@@ -1,6 +1,5 @@
 use native.Mathlib.Omega.{arith}
 use Rattle.codec.proofs.Putting.{no_room, has_room}
-use borrow.Author.Rules.{rules}
 use Rattle.codec.proofs.write_number.Goals as goal
 
 pub returns-then-at-out : goal.returns-then-at-out

@@ -1,16 +1,13 @@
 use Rattle.std.proofs.Common.{arith}
-use borrow.Author.Rules.{rules}
 use mathlib.Core.Path.{refl, ◌∙◌}
 use Rattle.table.specs.Table.{tm, row, table, row_of}
 use Rattle.table.proofs.Dispatch.{passed_at, up, same, build-at}
 use Rattle.table.proofs.Fits.{even_pairs, few_pairs, one-term, term-pairs, all_options, first_kind, width_64, one_bool, small-par, small-keys, field-there}
-use Rattle.table.proofs.Kept.{small}
 use Rattle.factory.proofs.Calls.{ready_wf}
 use Rattle.factory.proofs.Guards.{options}
 use Rattle.arena.specs.Cells.{used}
 use Rattle.arena.specs.Lists.{odds}
 use Rattle.arena.proofs.Steps.{picked}
-use borrow.Author.Rules.{rules}
 use Rattle.compiled.proofs.build_compiled.Goals as goal
 
 pub compile_not-requires : goal.compile_not-requires

@@ -1,5 +1,4 @@
 use Prim.Native.Nat.{ℕ}
-use borrow.Author.Rules.{rules}
 use lib.Dec.{eqb}
 use mathlib.Core.Bool.{true}
 use mathlib.Core.List.{List}
@@ -17,7 +16,6 @@ use Rattle.arena.specs.WellFormed.{is_term}
 use Rattle.arena.proofs.Chain.{type-kind}
 use Rattle.arena.proofs.Steps.{did_then, did_stop, picked}
 use Rattle.arena.proofs.Whole.{field-type}
-use borrow.Author.Rules.{rules}
 use Rattle.compiled.proofs.compile_get_attr.Goals as goal
 
 pub type_of-ty-requires : goal.type_of-ty-requires

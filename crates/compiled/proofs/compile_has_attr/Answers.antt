@@ -1,5 +1,4 @@
 use Prim.Native.Nat.{ℕ}
-use borrow.Author.Rules.{rules}
 use mathlib.Core.Bool.{true, false}
 use mathlib.Core.List.{List}
 use mathlib.Core.Path.{sym, ap, ◌∙◌}
@@ -11,11 +10,9 @@ use Rattle.factory.proofs.Operands.{type_pos}
 use Rattle.arena.specs.Cells.{used}
 use Rattle.arena.specs.Lists.{field_d}
 use Rattle.arena.specs.Nodes.{type_at, kind_at, mem_at}
-use Rattle.arena.specs.WellFormed.{small}
 use Rattle.arena.proofs.Chain.{type-kind}
 use Rattle.arena.proofs.Steps.{picked}
 use Rattle.arena.proofs.Whole.{field-type}
-use borrow.Author.Rules.{rules}
 use Rattle.compiled.proofs.compile_has_attr.Goals as goal
 
 pub type_of-ty-requires : goal.type_of-ty-requires

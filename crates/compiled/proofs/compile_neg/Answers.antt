@@ -1,4 +1,3 @@
-use borrow.Author.Rules.{rules}
 use mathlib.Core.Path.{ap}
 use native.Mathlib.Omega.{arith}
 use Rattle.compiler.specs.Compiler.{neg_unless, compiled_neg}
@@ -12,7 +11,6 @@ use Rattle.nodes.specs.Replies.{term_reply}
 use Rattle.arena.specs.Values.{tbool}
 use Rattle.arena.proofs.Ext.{ext_trans}
 use Rattle.arena.proofs.Steps.{did_then, did_stop}
-use borrow.Author.Rules.{rules}
 use Rattle.compiled.proofs.compile_neg.Goals as goal
 
 pub neg_unless-requires : goal.neg_unless-requires

@@ -1,4 +1,3 @@
-use borrow.Author.Rules.{rules}
 use lib.Seq.{length-take-le}
 use mathlib.Core.Path.{sym, ap, ◌∙◌}
 use native.Mathlib.Omega.{arith}
@@ -13,7 +12,6 @@ use Rattle.arena.specs.WellFormed.{small}
 use Rattle.arena.proofs.Ext.{ext_same}
 use Rattle.arena.proofs.Insertion.{holds-length}
 use Rattle.arena.proofs.Steps.{did_stop}
-use borrow.Author.Rules.{rules}
 use Rattle.compiled.proofs.compile_record.Goals as goal
 
 pub listed_options-n-requires : goal.listed_options-n-requires

@@ -1,15 +1,10 @@
-use Prim.Native.Nat.{◌+◌, ◌<◌, ◌≤◌, ◌%◌, ◌-◌}
-use borrow.Author.Rules.{rules}
-use lib.ListN.{length, get_or, drop, length-drop, take, length-set}
+use Prim.Native.Nat.{◌+◌, ◌<◌}
+use lib.ListN.{length, get_or, length-drop, length-set}
 use mathlib.Core.Path.{◌≡◌, refl, ap, ◌∙◌}
 use native.Mathlib.Omega.{arith}
-use Rattle.compiler.specs.Compiler.{gotten, inner}
-use Rattle.compiler.proofs.Gather.{Left, left-start, left-full, left-two, left_end, left-first, left_write}
+use Rattle.compiler.proofs.Gather.{left-start, left-full, left-two, left_end, left-first, left_write}
 use Rattle.factory.proofs.Picks.{types_held}
-use Rattle.arena.specs.Cells.{cells, used}
 use Rattle.nodes.specs.Replies.{term_reply}
-use Rattle.arena.specs.Nodes.{mark, out}
-use borrow.Author.Rules.{rules}
 use Rattle.compiled.proofs.get_fields.Goals as goal
 
 pub loop-i-init : goal.loop-i-init

@@ -1,15 +1,10 @@
-use Prim.Native.Nat.{◌+◌, ◌<◌, ◌≤◌, ◌%◌, ◌-◌}
-use borrow.Author.Rules.{rules}
-use lib.ListN.{length, get_or, drop, length-drop, take, length-set}
-use mathlib.Core.Path.{◌≡◌, refl, ap, ◌∙◌}
-use native.Mathlib.Omega.{arith}
+use Prim.Native.Nat.{◌≤◌, ◌%◌, ◌-◌}
+use lib.ListN.{length, drop, take}
+use mathlib.Core.Path.{◌≡◌}
 use Rattle.compiler.specs.Compiler.{gotten, inner}
-use Rattle.compiler.proofs.Gather.{Left, left-start, left-full, left-two, left_end, left-first, left_write}
-use Rattle.factory.proofs.Picks.{types_held}
-use Rattle.arena.specs.Cells.{cells, used}
-use Rattle.nodes.specs.Replies.{term_reply}
-use Rattle.arena.specs.Nodes.{mark, out}
-use borrow.Author.Rules.{rules}
+use Rattle.compiler.proofs.Gather.{Left}
+use Rattle.arena.specs.Cells.{used}
+use Rattle.arena.specs.Nodes.{out}
 use Rattle.compiled.proofs.get_fields.Given as goal
 
 abbrev pub invariant-loop-i : goal.invariant-loop-i

@@ -1,12 +1,7 @@
-use Prim.Native.Nat.{◌≤◌, ◌-◌}
-use borrow.Author.Rules.{rules}
-use lib.ListN.{length, drop}
-use mathlib.Core.Path.{◌≡◌, refl, sym, ◌∙◌}
+use mathlib.Core.Path.{refl, sym, ◌∙◌}
 use native.Mathlib.Omega.{arith}
 use Rattle.compiler.proofs.Optional.{has_some_lem, has_none}
-use Rattle.arena.specs.Lists.{field}
 use Rattle.arena.proofs.Loops.{field_hit, field_miss, field_end}
-use borrow.Author.Rules.{rules}
 use Rattle.compiled.proofs.has_field.Goals as goal
 
 pub loop-i-init : goal.loop-i-init

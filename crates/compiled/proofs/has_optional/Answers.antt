@@ -1,4 +1,3 @@
-use borrow.Author.Rules.{rules}
 use mathlib.Core.Path.{ap}
 use Rattle.compiler.specs.Compiler.{fields_at, has_some}
 use Rattle.compiler.proofs.Optional.{optional_got}
@@ -12,7 +11,6 @@ use Rattle.nodes.specs.Replies.{term_reply}
 use Rattle.arena.specs.Lists.{field_d}
 use Rattle.arena.proofs.Ext.{ext_trans}
 use Rattle.arena.proofs.Steps.{did_then, did_stop}
-use borrow.Author.Rules.{rules}
 use Rattle.compiled.proofs.has_optional.Goals as goal
 
 pub record_get-requires : goal.record_get-requires

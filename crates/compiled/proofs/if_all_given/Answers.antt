@@ -1,4 +1,3 @@
-use borrow.Author.Rules.{rules}
 use mathlib.Core.Bool.{true}
 use mathlib.Core.Path.{◌≡◌, ap}
 use Rattle.compiler.specs.Compiler.{if_all_given}
@@ -11,7 +10,6 @@ use Rattle.factory.proofs.Made.{some_law}
 use Rattle.nodes.specs.Replies.{term_reply}
 use Rattle.arena.specs.WellFormed.{is_term}
 use Rattle.arena.proofs.Steps.{did_then, did_stop}
-use borrow.Author.Rules.{rules}
 use Rattle.compiled.proofs.if_all_given.Goals as goal
 
 pub some_of-requires : goal.some_of-requires

@@ -1,15 +1,9 @@
-use Prim.Native.Nat.{◌+◌, ◌*◌, ◌<◌, ◌≤◌, ◌-◌}
-use borrow.Author.Rules.{rules}
-use lib.ListN.{length, get_or, drop, take, length-set}
+use Prim.Native.Nat.{◌*◌, ◌≤◌, ◌-◌}
+use lib.ListN.{length, drop, take}
 use mathlib.Core.List.{◌++◌}
-use mathlib.Core.Path.{◌≡◌, refl, sym, ◌∙◌}
-use native.Mathlib.Omega.{arith}
-use Rattle.compiler.proofs.Gather.{odds-next, odds_last}
-use Rattle.factory.proofs.Picks.{holds-one}
+use mathlib.Core.Path.{◌≡◌}
 use Rattle.arena.specs.Lists.{odds}
 use Rattle.arena.specs.Runs.{Holds}
-use Rattle.arena.proofs.Insertion.{holds_none, holds_as, holds_then}
-use borrow.Author.Rules.{rules}
 use Rattle.compiled.proofs.listed_options.Given as goal
 
 abbrev pub invariant-loop-i : goal.invariant-loop-i

@@ -1,4 +1,3 @@
-use borrow.Author.Rules.{rules}
 use mathlib.Core.Bool.{true}
 use mathlib.Core.Path.{◌≡◌, ap}
 use Rattle.compiler.specs.Compiler.{neg_unless}
@@ -12,7 +11,6 @@ use Rattle.nodes.specs.Replies.{term_reply}
 use Rattle.arena.specs.Values.{tbool}
 use Rattle.arena.specs.WellFormed.{is_term}
 use Rattle.arena.proofs.Steps.{did_then, did_stop}
-use borrow.Author.Rules.{rules}
 use Rattle.compiled.proofs.neg_unless.Goals as goal
 
 pub bvneg-requires : goal.bvneg-requires

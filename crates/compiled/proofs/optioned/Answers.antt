@@ -1,7 +1,5 @@
-use borrow.Author.Rules.{rules}
 use Rattle.compiler.specs.Compiler.{optioned}
 use Rattle.arena.proofs.Steps.{picked, did_here}
-use borrow.Author.Rules.{rules}
 use Rattle.compiled.proofs.optioned.Goals as goal
 
 pub returns-then-option : goal.returns-then-option

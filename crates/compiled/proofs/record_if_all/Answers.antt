@@ -1,4 +1,3 @@
-use borrow.Author.Rules.{rules}
 use mathlib.Core.Bool.{true}
 use mathlib.Core.Path.{◌≡◌, ap}
 use Rattle.compiler.specs.Compiler.{if_all_given, record_if_all}
@@ -11,7 +10,6 @@ use Rattle.nodes.specs.Replies.{term_reply}
 use Rattle.arena.specs.WellFormed.{is_term}
 use Rattle.arena.proofs.Ext.{ext_trans}
 use Rattle.arena.proofs.Steps.{did_then, did_stop}
-use borrow.Author.Rules.{rules}
 use Rattle.compiled.proofs.record_if_all.Goals as goal
 
 pub record_of-requires : goal.record_of-requires

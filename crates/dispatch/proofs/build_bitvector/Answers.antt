@@ -1,4 +1,3 @@
-use borrow.Author.Rules.{rules}
 use lib.ListN.{get_or}
 use mathlib.Core.Path.{◌≡◌, ◌∙◌}
 use native.Mathlib.Omega.{arith}
@@ -8,7 +7,6 @@ use Rattle.table.proofs.Fits.{one-term, first_kind, two-kind, widened}
 use Rattle.factory.proofs.Calls.{ready_wf}
 use Rattle.arena.specs.Cells.{used}
 use Rattle.arena.proofs.Steps.{picked}
-use borrow.Author.Rules.{rules}
 use Rattle.dispatch.proofs.build_bitvector.Goals as goal
 
 pub bvneg-requires : goal.bvneg-requires

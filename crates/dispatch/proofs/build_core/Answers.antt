@@ -1,5 +1,4 @@
 use Rattle.std.proofs.Common.{arith}
-use borrow.Author.Rules.{rules}
 use mathlib.Core.Path.{◌∙◌}
 use Rattle.table.specs.Table.{row, table, row_of}
 use Rattle.table.proofs.Dispatch.{passed_at, up, same, build-at}
@@ -7,7 +6,6 @@ use Rattle.table.proofs.Fits.{two_alike, one_bool, two_bools, choice_of}
 use Rattle.factory.proofs.Calls.{ready_wf}
 use Rattle.arena.specs.Cells.{used}
 use Rattle.arena.proofs.Steps.{picked}
-use borrow.Author.Rules.{rules}
 use Rattle.dispatch.proofs.build_core.Goals as goal
 
 pub not-requires : goal.not-requires

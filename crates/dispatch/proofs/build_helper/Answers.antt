@@ -1,5 +1,4 @@
 use Rattle.std.proofs.Common.{arith}
-use borrow.Author.Rules.{rules}
 use lib.ListN.{drop}
 use mathlib.Core.Path.{◌∙◌}
 use Rattle.table.specs.Table.{row, table, row_of}
@@ -9,7 +8,6 @@ use Rattle.factory.proofs.Calls.{ready_wf}
 use Rattle.factory.proofs.Guards.{options}
 use Rattle.arena.specs.Cells.{used}
 use Rattle.arena.proofs.Steps.{picked}
-use borrow.Author.Rules.{rules}
 use Rattle.dispatch.proofs.build_helper.Goals as goal
 
 pub is_none-requires : goal.is_none-requires

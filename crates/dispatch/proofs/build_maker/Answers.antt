@@ -1,5 +1,4 @@
 use Rattle.std.proofs.Common.{arith}
-use borrow.Author.Rules.{rules}
 use mathlib.Core.List.{[], ◌∷◌}
 use mathlib.Core.Path.{refl, ◌∙◌}
 use Rattle.table.specs.Table.{ty, tm, row, table, row_of}
@@ -8,7 +7,6 @@ use Rattle.table.proofs.Fits.{few_pairs, few_run, one_type_lem, one-term, type-r
 use Rattle.factory.proofs.Calls.{ready_wf}
 use Rattle.arena.specs.Cells.{used}
 use Rattle.arena.proofs.Steps.{picked, did_here}
-use borrow.Author.Rules.{rules}
 use Rattle.dispatch.proofs.build_maker.Goals as goal
 
 pub bitvec_lit-requires : goal.bitvec_lit-requires

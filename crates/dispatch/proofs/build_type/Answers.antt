@@ -1,11 +1,9 @@
 use Rattle.std.proofs.Common.{arith}
-use borrow.Author.Rules.{rules}
 use mathlib.Core.Path.{◌∙◌}
 use Rattle.table.specs.Table.{row, table, row_of}
 use Rattle.table.proofs.Dispatch.{up, same, build-at}
 use Rattle.arena.specs.Cells.{used}
 use Rattle.arena.proofs.Steps.{picked}
-use borrow.Author.Rules.{rules}
 use Rattle.dispatch.proofs.build_type.Goals as goal
 
 pub type_node-requires : goal.type_node-requires

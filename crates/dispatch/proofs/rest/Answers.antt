@@ -1,10 +1,8 @@
 use Prim.Native.Nat.{◌-◌}
-use borrow.Author.Rules.{rules}
 use lib.ListN.{length, drop, length-drop}
 use lib.Seq.{take_all}
 use native.Mathlib.Omega.{arith}
 use Rattle.table.proofs.Dispatch.{rest_none}
-use borrow.Author.Rules.{rules}
 use Rattle.dispatch.proofs.rest.Goals as goal
 
 pub returns-then-xs-eq0 : goal.returns-then-xs-eq0

@@ -1,4 +1,3 @@
-use borrow.Author.Rules.{rules}
 use Rattle.factory.proofs.Calls.{term_pos}
 use Rattle.factory_bitvectors.proofs.both_bv.Goals as goal
 

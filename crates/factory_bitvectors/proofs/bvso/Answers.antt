@@ -1,4 +1,3 @@
-use borrow.Author.Rules.{rules}
 use mathlib.Core.Path.{sym, ◌∙◌}
 use Rattle.arena.proofs.Steps.{did_here, picked}
 use Rattle.factory.specs.Bitvectors.{bvso_t}

@@ -1,11 +1,9 @@
-use borrow.Author.Rules.{rules}
 use borrow.Author.Tests.{eq-eqb, ne_eqb}
 use mathlib.Core.Path.{sym, ◌∙◌}
 use Rattle.factory.specs.Bitvectors.{extended_to}
 use Rattle.factory.proofs.Calls.{term_pos, ready_wf}
 use Rattle.factory.proofs.Operands.{one_bv, wider}
 use Rattle.arena.proofs.Steps.{picked}
-use borrow.Author.Rules.{rules}
 use Rattle.factory_bitvectors.proofs.extended.Goals as goal
 
 pub kind_of-requires : goal.kind_of-requires

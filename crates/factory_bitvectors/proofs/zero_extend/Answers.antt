@@ -1,5 +1,4 @@
 use Prim.Native.Nat.{◌+◌, ◌≤◌}
-use borrow.Author.Rules.{rules}
 use mathlib.Core.Path.{ap}
 use native.Mathlib.Omega.{arith}
 use Rattle.factory.specs.Bitvectors.{extended_to, zero_extend_t}
@@ -9,7 +8,6 @@ use Rattle.factory.proofs.Operands.{wider_type, bv_keep, extended_ext}
 use Rattle.nodes.specs.Replies.{type_reply}
 use Rattle.arena.specs.Nodes.{width_at}
 use Rattle.arena.proofs.Steps.{did_then, did_stop, picked}
-use borrow.Author.Rules.{rules}
 use Rattle.factory_bitvectors.proofs.zero_extend.Goals as goal
 
 pub width_of-width-requires : goal.width_of-width-requires

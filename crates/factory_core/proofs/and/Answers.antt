@@ -1,4 +1,3 @@
-use borrow.Author.Rules.{rules}
 use Rattle.factory.specs.Core.{and_t}
 use Rattle.factory_core.proofs.and.Goals as goal
 

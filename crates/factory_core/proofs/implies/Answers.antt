@@ -1,4 +1,3 @@
-use borrow.Author.Rules.{rules}
 use mathlib.Core.Path.{ap}
 use Rattle.arena.specs.Values.{tbool}
 use Rattle.nodes.specs.Replies.{term_reply}

@@ -1,4 +1,3 @@
-use borrow.Author.Rules.{rules}
 use mathlib.Core.Path.{sym, ◌∙◌}
 use lib.Dec.{eqb}
 use borrow.Author.Tests.{eqb-true}

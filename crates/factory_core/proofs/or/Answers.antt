@@ -1,4 +1,3 @@
-use borrow.Author.Rules.{rules}
 use Rattle.factory.specs.Core.{or_t}
 use Rattle.factory_core.proofs.or.Goals as goal
 

@@ -1,10 +1,8 @@
-use borrow.Author.Rules.{rules}
 use native.Mathlib.Omega.{arith}
 use Rattle.factory.proofs.Calls.{ready_wf, term_pos}
 use Rattle.arena.proofs.Insertion.{holds-length}
 use Rattle.arena.proofs.Known.{set_node}
 use Rattle.arena.proofs.Steps.{picked}
-use borrow.Author.Rules.{rules}
 use Rattle.factory_data.proofs.inter_of.Goals as goal
 
 pub type_of-ty-requires : goal.type_of-ty-requires

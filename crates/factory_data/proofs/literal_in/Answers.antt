@@ -1,8 +1,6 @@
-use borrow.Author.Rules.{rules}
 use borrow.Author.Tests.{eq-eqb, ne_eqb}
 use mathlib.Core.Path.{sym, ◌∙◌}
 use Rattle.factory.proofs.Calls.{term_pos}
-use borrow.Author.Rules.{rules}
 use Rattle.factory_data.proofs.literal_in.Goals as goal
 
 pub kind_of-requires : goal.kind_of-requires

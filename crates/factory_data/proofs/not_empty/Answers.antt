@@ -1,4 +1,3 @@
-use borrow.Author.Rules.{rules}
 use mathlib.Core.Path.{ap}
 use Rattle.factory.specs.Core.{not_t}
 use Rattle.factory.specs.Fit.{Typed}
@@ -10,7 +9,6 @@ use Rattle.factory.proofs.SetLaws.{is_empty_law}
 use Rattle.nodes.specs.Replies.{term_reply}
 use Rattle.arena.specs.Values.{tbool}
 use Rattle.arena.proofs.Steps.{did_then, did_stop}
-use borrow.Author.Rules.{rules}
 use Rattle.factory_data.proofs.not_empty.Goals as goal
 
 pub not-requires : goal.not-requires

@@ -1,11 +1,9 @@
-use borrow.Author.Rules.{rules}
 use borrow.Author.Tests.{eq-eqb, ne_eqb}
 use mathlib.Core.Path.{sym, ◌∙◌}
 use Rattle.factory.specs.SetSteps.{record_get}
 use Rattle.factory.proofs.Calls.{ready_wf, term_pos}
 use Rattle.factory.proofs.Operands.{type_pos}
 use Rattle.arena.proofs.Steps.{did_here, picked}
-use borrow.Author.Rules.{rules}
 use Rattle.factory_data.proofs.record_get.Goals as goal
 
 pub kind_of-requires : goal.kind_of-requires

@@ -1,11 +1,9 @@
-use borrow.Author.Rules.{rules}
 use borrow.Author.Tests.{eq-eqb, eqb-true, ne_eqb}
 use mathlib.Core.Path.{sym, ◌∙◌}
 use Rattle.factory.specs.SetSteps.{set_inter}
 use Rattle.factory.proofs.Calls.{term_pos}
 use Rattle.arena.proofs.Bools.{and_l}
 use Rattle.arena.proofs.Steps.{did_here, picked}
-use borrow.Author.Rules.{rules}
 use Rattle.factory_data.proofs.set_inter.Goals as goal
 
 pub returns-then-s-t : goal.returns-then-s-t

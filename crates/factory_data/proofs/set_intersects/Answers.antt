@@ -1,4 +1,3 @@
-use borrow.Author.Rules.{rules}
 use mathlib.Core.Path.{ap}
 use Rattle.factory.specs.Fit.{OfKind}
 use Rattle.factory.specs.SetSteps.{not_empty, set_intersects}
@@ -10,7 +9,6 @@ use Rattle.factory.proofs.SetLaws.{is_empty_law, inter_law}
 use Rattle.nodes.specs.Replies.{term_reply}
 use Rattle.arena.proofs.Ext.{ext_trans}
 use Rattle.arena.proofs.Steps.{did_then, did_stop}
-use borrow.Author.Rules.{rules}
 use Rattle.factory_data.proofs.set_intersects.Goals as goal
 
 pub set_inter-requires : goal.set_inter-requires

@@ -1,4 +1,3 @@
-use borrow.Author.Rules.{rules}
 use borrow.Author.Tests.{eq-eqb, ne_eqb}
 use mathlib.Core.Path.{refl, sym, ap, ◌∙◌}
 use Rattle.factory.specs.Core.{eq_t}
@@ -14,7 +13,6 @@ use Rattle.arena.specs.Cells.{used}
 use Rattle.nodes.specs.Replies.{term_reply}
 use Rattle.arena.specs.Nodes.{type_at, mem_at}
 use Rattle.arena.proofs.Steps.{did_then, did_stop, did_here, picked}
-use borrow.Author.Rules.{rules}
 use Rattle.factory_data.proofs.set_is_empty.Goals as goal
 
 pub kind_of-requires : goal.kind_of-requires

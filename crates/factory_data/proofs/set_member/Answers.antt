@@ -1,9 +1,7 @@
-use borrow.Author.Rules.{rules}
 use mathlib.Core.Path.{sym, ◌∙◌}
 use Rattle.factory.specs.SetSteps.{set_member}
 use Rattle.factory.proofs.Calls.{term_pos}
 use Rattle.arena.proofs.Steps.{did_here, picked}
-use borrow.Author.Rules.{rules}
 use Rattle.factory_data.proofs.set_member.Goals as goal
 
 pub is_empty_set-requires : goal.is_empty_set-requires

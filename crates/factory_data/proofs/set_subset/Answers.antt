@@ -1,10 +1,8 @@
-use borrow.Author.Rules.{rules}
 use borrow.Author.Tests.{eq-eqb, ne_eqb}
 use mathlib.Core.Path.{sym, ◌∙◌}
 use Rattle.factory.specs.SetSteps.{set_subset}
 use Rattle.factory.proofs.Calls.{term_pos}
 use Rattle.arena.proofs.Steps.{did_here, picked}
-use borrow.Author.Rules.{rules}
 use Rattle.factory_data.proofs.set_subset.Goals as goal
 
 pub returns-then-s-t : goal.returns-then-s-t

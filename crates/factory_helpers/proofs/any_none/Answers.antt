@@ -1,14 +1,7 @@
-use Prim.Native.Nat.{◌≤◌, ◌-◌}
-use borrow.Author.Rules.{rules}
-use lib.ListN.{length, drop}
-use mathlib.Core.Path.{◌≡◌, refl, ap, ◌∙◌}
+use mathlib.Core.Path.{refl, ap, ◌∙◌}
 use native.Mathlib.Omega.{arith}
-use Rattle.factory.specs.Helpers.{any_none}
-use Rattle.factory.proofs.Turns.{Left, left-start, left-next, left-full, left_one, left_none, left_end}
-use Rattle.arena.specs.Cells.{cells, used}
+use Rattle.factory.proofs.Turns.{left-start, left-next, left-full, left_one, left_none, left_end}
 use Rattle.nodes.specs.Replies.{term_reply}
-use Rattle.arena.specs.Nodes.{mark}
-use borrow.Author.Rules.{rules}
 use Rattle.factory_helpers.proofs.any_none.Goals as goal
 
 pub loop-i-init : goal.loop-i-init

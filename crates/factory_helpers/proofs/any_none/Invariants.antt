@@ -1,14 +1,9 @@
 use Prim.Native.Nat.{◌≤◌, ◌-◌}
-use borrow.Author.Rules.{rules}
 use lib.ListN.{length, drop}
-use mathlib.Core.Path.{◌≡◌, refl, ap, ◌∙◌}
-use native.Mathlib.Omega.{arith}
+use mathlib.Core.Path.{◌≡◌}
 use Rattle.factory.specs.Helpers.{any_none}
-use Rattle.factory.proofs.Turns.{Left, left-start, left-next, left-full, left_one, left_none, left_end}
-use Rattle.arena.specs.Cells.{cells, used}
-use Rattle.nodes.specs.Replies.{term_reply}
-use Rattle.arena.specs.Nodes.{mark}
-use borrow.Author.Rules.{rules}
+use Rattle.factory.proofs.Turns.{Left}
+use Rattle.arena.specs.Cells.{used}
 use Rattle.factory_helpers.proofs.any_none.Given as goal
 
 abbrev pub invariant-loop-i : goal.invariant-loop-i

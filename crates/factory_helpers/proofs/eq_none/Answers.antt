@@ -1,4 +1,3 @@
-use borrow.Author.Rules.{rules}
 use mathlib.Core.Path.{refl, ap}
 use Rattle.arena.specs.Meaning.{ty_of}
 use Rattle.nodes.specs.Replies.{term_reply}

@@ -1,4 +1,3 @@
-use borrow.Author.Rules.{rules}
 use borrow.Author.Tests.{eq-eqb, ne_eqb}
 use mathlib.Core.Path.{sym, ap, ◌∙◌}
 use Rattle.factory.specs.Helpers.{guarded}
@@ -6,7 +5,6 @@ use Rattle.factory.proofs.Calls.{term_pos, ready_wf}
 use Rattle.factory.proofs.Operands.{type_pos}
 use Rattle.arena.specs.Nodes.{kind_at}
 use Rattle.arena.proofs.Steps.{picked}
-use borrow.Author.Rules.{rules}
 use Rattle.factory_helpers.proofs.guarded.Goals as goal
 
 pub type_of-ty-requires : goal.type_of-ty-requires

@@ -1,4 +1,3 @@
-use borrow.Author.Rules.{rules}
 use mathlib.Core.Bool.{true}
 use mathlib.Core.Path.{◌≡◌, ap}
 use Rattle.factory.specs.Fit.{Typed}
@@ -13,7 +12,6 @@ use Rattle.arena.specs.Values.{tbool}
 use Rattle.arena.specs.WellFormed.{is_term}
 use Rattle.arena.proofs.Chain.{term_ext}
 use Rattle.arena.proofs.Steps.{did_then, did_stop}
-use borrow.Author.Rules.{rules}
 use Rattle.factory_helpers.proofs.if_some.Goals as goal
 
 pub is_none-requires : goal.is_none-requires

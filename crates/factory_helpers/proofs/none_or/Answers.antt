@@ -1,4 +1,3 @@
-use borrow.Author.Rules.{rules}
 use mathlib.Core.Path.{refl, ap}
 use Rattle.factory.specs.Core.{ite_t}
 use Rattle.factory.specs.Fit.{Typed, Alike}
@@ -12,7 +11,6 @@ use Rattle.nodes.specs.Replies.{term_reply}
 use Rattle.arena.specs.Meaning.{ty_of}
 use Rattle.arena.specs.Values.{tbool}
 use Rattle.arena.proofs.Steps.{did_then, did_stop, picked}
-use borrow.Author.Rules.{rules}
 use Rattle.factory_helpers.proofs.none_or.Goals as goal
 
 pub elem_of-ty-requires : goal.elem_of-ty-requires

@@ -1,4 +1,3 @@
-use borrow.Author.Rules.{rules}
 use mathlib.Core.Path.{ap}
 use Rattle.factory.specs.Core.{or_t}
 use Rattle.factory.specs.Fit.{Typed}
@@ -11,7 +10,6 @@ use Rattle.factory.proofs.Options.{is_none_law}
 use Rattle.nodes.specs.Replies.{term_reply}
 use Rattle.arena.specs.Values.{tbool}
 use Rattle.arena.proofs.Steps.{did_then, did_stop}
-use borrow.Author.Rules.{rules}
 use Rattle.factory_helpers.proofs.or_is_none.Goals as goal
 
 pub is_none-requires : goal.is_none-requires

@@ -1,4 +1,3 @@
-use borrow.Author.Rules.{rules}
 use mathlib.Core.Path.{refl, ap}
 use Rattle.arena.specs.Values.{tbool}
 use Rattle.arena.specs.Meaning.{ty_of}

@@ -1,17 +1,10 @@
-use Prim.Native.Nat.{◌+◌, ◌<◌, ◌≤◌, ◌%◌, ◌-◌}
-use borrow.Author.Rules.{rules}
-use lib.ListN.{length, get_or, drop, take, set, length-set}
-use mathlib.Core.Bool.{true}
-use mathlib.Core.List.{◌++◌}
+use Prim.Native.Nat.{◌+◌, ◌<◌}
+use lib.ListN.{length, get_or, take, set, length-set}
 use mathlib.Core.Path.{◌≡◌, refl, ◌∙◌}
 use native.Mathlib.Omega.{arith}
 use Rattle.factory.proofs.Calls.{term_pos}
 use Rattle.factory.proofs.Picks.{pair_back, types_next, types_last, odd_term, types_held}
-use Rattle.arena.specs.Cells.{cells, used}
-use Rattle.arena.specs.Lists.{all, odds}
-use Rattle.arena.specs.Nodes.{mark, field_types}
-use Rattle.arena.specs.WellFormed.{is_term}
-use borrow.Author.Rules.{rules}
+use Rattle.arena.specs.Cells.{used}
 use Rattle.factory_makers.proofs.field_types.Goals as goal
 
 pub loop-i-init : goal.loop-i-init

@@ -1,17 +1,12 @@
-use Prim.Native.Nat.{◌+◌, ◌<◌, ◌≤◌, ◌%◌, ◌-◌}
-use borrow.Author.Rules.{rules}
-use lib.ListN.{length, get_or, drop, take, set, length-set}
+use Prim.Native.Nat.{◌≤◌, ◌%◌, ◌-◌}
+use lib.ListN.{length, drop, take}
 use mathlib.Core.Bool.{true}
 use mathlib.Core.List.{◌++◌}
-use mathlib.Core.Path.{◌≡◌, refl, ◌∙◌}
-use native.Mathlib.Omega.{arith}
-use Rattle.factory.proofs.Calls.{term_pos}
-use Rattle.factory.proofs.Picks.{pair_back, types_next, types_last, odd_term, types_held}
-use Rattle.arena.specs.Cells.{cells, used}
+use mathlib.Core.Path.{◌≡◌}
+use Rattle.arena.specs.Cells.{used}
 use Rattle.arena.specs.Lists.{all, odds}
-use Rattle.arena.specs.Nodes.{mark, field_types}
+use Rattle.arena.specs.Nodes.{field_types}
 use Rattle.arena.specs.WellFormed.{is_term}
-use borrow.Author.Rules.{rules}
 use Rattle.factory_makers.proofs.field_types.Given as goal
 
 abbrev pub invariant-loop-i : goal.invariant-loop-i

@@ -1,4 +1,3 @@
-use borrow.Author.Rules.{rules}
 use Rattle.arena.proofs.View.{is_opt_lem}
 use Rattle.arena.proofs.Whole.{good_is}
 use Rattle.factory.specs.Makers.{none_of}

@@ -1,4 +1,3 @@
-use borrow.Author.Rules.{rules}
 use lib.Seq.{length-take-le}
 use mathlib.Core.List.{[]}
 use mathlib.Core.Path.{refl, sym}
@@ -11,7 +10,6 @@ use Rattle.arena.specs.Lists.{all, odds}
 use Rattle.arena.proofs.Fields.{fields_of-all}
 use Rattle.arena.proofs.Insertion.{holds-length}
 use Rattle.arena.proofs.Steps.{picked}
-use borrow.Author.Rules.{rules}
 use Rattle.factory_makers.proofs.record_of.Goals as goal
 
 pub slice_bounds-field_types-end : goal.slice_bounds-field_types-end

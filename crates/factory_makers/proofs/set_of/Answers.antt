@@ -1,11 +1,9 @@
-use borrow.Author.Rules.{rules}
 use Rattle.factory.specs.Makers.{set_of}
 use Rattle.factory.proofs.Calls.{ready_wf}
 use Rattle.arena.proofs.Insertion.{holds-length}
 use Rattle.arena.proofs.Steps.{picked}
 use Rattle.arena.proofs.View.{is_set}
 use Rattle.arena.proofs.Whole.{good_is}
-use borrow.Author.Rules.{rules}
 use Rattle.factory_makers.proofs.set_of.Goals as goal
 
 pub slice_bounds-typed_node-end-2 : goal.slice_bounds-typed_node-end-2

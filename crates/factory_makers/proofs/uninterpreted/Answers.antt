@@ -1,4 +1,3 @@
-use borrow.Author.Rules.{rules}
 use Rattle.factory.specs.Core.{uninterpreted}
 use Rattle.factory_makers.proofs.uninterpreted.Goals as goal
 

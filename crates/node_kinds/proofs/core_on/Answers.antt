@@ -1,5 +1,4 @@
 use borrow.Author.Tests.{ne_eqb}
-use borrow.Author.Rules.{rules}
 use Rattle.node_tests.specs.Decide.{core_on}
 use Rattle.node_kinds.proofs.core_on.Goals as goal
 

@@ -1,5 +1,4 @@
 use borrow.Author.Tests.{ne_eqb}
-use borrow.Author.Rules.{rules}
 use Rattle.node_tests.specs.Decide.{data_on}
 use Rattle.node_kinds.proofs.data_on.Goals as goal
 

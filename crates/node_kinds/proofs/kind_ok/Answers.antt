@@ -1,5 +1,4 @@
 use borrow.Author.Tests.{le-leb, lt-leb}
-use borrow.Author.Rules.{rules}
 use Rattle.arena.specs.WellFormed.{kind_test}
 use Rattle.node_kinds.proofs.kind_ok.Goals as goal
 

@@ -1,5 +1,4 @@
 use mathlib.Core.Path.{ap, ◌∙◌}
-use borrow.Author.Rules.{rules}
 use Rattle.arena.specs.Cells.{used}
 use Rattle.arena.specs.Nodes.{type_at}
 use Rattle.node_tests.proofs.Arms.{set_by, record_by, maker_by}

@@ -3,7 +3,6 @@ use mathlib.Core.Bool.{Bool}
 use mathlib.Core.Path.{ap, ◌∙◌}
 use lib.Dec.{eqb}
 use borrow.Author.Tests.{ne_eqb}
-use borrow.Author.Rules.{rules}
 use Rattle.arena.specs.Lists.{every}
 use Rattle.node_tests.specs.Decide.{maker_on}
 use Rattle.node_kinds.proofs.maker_on.Goals as goal

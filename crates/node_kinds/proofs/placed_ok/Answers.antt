@@ -1,7 +1,6 @@
 use mathlib.Core.List.{[], ◌∷◌}
 use mathlib.Core.Path.{◌∙◌}
 use lib.Dec.{eqb}
-use borrow.Author.Rules.{rules}
 use Rattle.arena.specs.Cells.{used}
 use Rattle.arena.specs.Lists.{every}
 use Rattle.node_tests.proofs.Arms.{stride_ok, placed_types, placed-terms}

@@ -2,7 +2,6 @@ use mathlib.Core.List.{List, [], ◌∷◌}
 use mathlib.Core.Path.{ap, ◌∙◌}
 use Prim.Native.Nat.{ℕ}
 use lib.Dec.{eqb}
-use borrow.Author.Rules.{rules}
 use Rattle.arena.specs.Cells.{used}
 use Rattle.arena.specs.Nodes.{field_types}
 use Rattle.arena.specs.Lists.{every, same_list}

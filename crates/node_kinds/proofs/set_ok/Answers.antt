@@ -3,7 +3,6 @@ use mathlib.Core.Path.{ap, ◌∙◌}
 use Prim.Native.Nat.{ℕ}
 use lib.Dec.{eqb, leb}
 use lib.ListN.{length}
-use borrow.Author.Rules.{rules}
 use Rattle.arena.specs.WellFormed.{type_is}
 use Rattle.arena.specs.Cells.{used}
 use Rattle.arena.specs.Lists.{every, all}

@@ -3,7 +3,6 @@ use mathlib.Core.Path.{◌∙◌}
 use lib.Dec.{eqb}
 use lib.ListN.{length}
 use borrow.Author.Tests.{ne_eqb}
-use borrow.Author.Rules.{rules}
 use Rattle.arena.proofs.Bools.{every_off}
 use Rattle.arena.specs.Lists.{every}
 use Rattle.node_kinds.proofs.set_type_ok.Goals as goal

@@ -1,4 +1,3 @@
-use borrow.Author.Rules.{rules}
 use Rattle.node_kinds.proofs.stride.Goals as goal
 
 pub returns-then-has_fields : goal.returns-then-has_fields

@@ -2,7 +2,6 @@ use mathlib.Core.List.{[], ◌∷◌}
 use mathlib.Core.Path.{◌∙◌}
 use lib.Dec.{eqb}
 use borrow.Author.Tests.{ne_eqb}
-use borrow.Author.Rules.{rules}
 use Rattle.arena.specs.WellFormed.{type_test}
 use Rattle.arena.specs.Lists.{every}
 use Rattle.node_kinds.proofs.type_ok.Goals as goal

@@ -1,9 +1,6 @@
-use mathlib.Core.Path.{sym, ap, ◌∙◌}
 use Prim.Native.Nat.{◌≤◌, ◌-◌}
-use native.Mathlib.Omega.{arith}
-use Rattle.arena.specs.Did.{found_or}
 use Rattle.arena.specs.Nodes.{node}
-use Rattle.arena.proofs.Scan.{Scan, scan_start, scan_fits, scan_hit, scan_miss, scan_end}
+use Rattle.arena.proofs.Scan.{Scan}
 use Rattle.nodes.proofs.find.Given as goal
 
 abbrev pub invariant-loop-at : goal.invariant-loop-at

@@ -1,9 +1,6 @@
-use borrow.Author.Rules.{rules}
-use mathlib.Core.Path.{◌≡◌, refl, sym, ◌∙◌}
-use Prim.Native.Nat.{◌≤◌, ◌-◌}
+use mathlib.Core.Path.{refl, sym, ◌∙◌}
 use native.Mathlib.Omega.{arith}
 use lib.ListN.{length, take, drop}
-use Rattle.arena.specs.Lists.{same_list}
 use Rattle.arena.proofs.Loops.{list_hit, list_miss, list_end}
 use Rattle.arena.proofs.Stretch.{stretch_length, stretch_at}
 use Rattle.nodes.proofs.same_run.Goals as goal

@@ -1,11 +1,7 @@
-use borrow.Author.Rules.{rules}
-use mathlib.Core.Path.{◌≡◌, refl, sym, ◌∙◌}
+use mathlib.Core.Path.{◌≡◌}
 use Prim.Native.Nat.{◌≤◌, ◌-◌}
-use native.Mathlib.Omega.{arith}
 use lib.ListN.{length, take, drop}
 use Rattle.arena.specs.Lists.{same_list}
-use Rattle.arena.proofs.Loops.{list_hit, list_miss, list_end}
-use Rattle.arena.proofs.Stretch.{stretch_length, stretch_at}
 use Rattle.nodes.proofs.same_run.Given as goal
 
 abbrev pub invariant-loop-i : goal.invariant-loop-i

@@ -1,14 +1,8 @@
-use mathlib.Core.Path.{◌≡◌, refl, sym, ◌∙◌}
-use Prim.Native.Nat.{◌+◌, ◌-◌, ◌≤◌}
+use mathlib.Core.Path.{refl, sym, ◌∙◌}
 use native.Mathlib.Omega.{arith}
-use borrow.Author.Rules.{rules}
-use lib.ListN.{length, drop}
-use borrow.Author.Tests.{not-true, not-false}
-use Rattle.arena.specs.Lists.{all}
-use Rattle.arena.specs.Nodes.{kind_at}
+use borrow.Author.Tests.{not-false}
 use Rattle.arena.specs.Cells.{used}
 use Rattle.arena.proofs.Starts.{first_kind}
-use Rattle.runs.specs.Strides.{heads}
 use Rattle.table.specs.Call.{sort_ok}
 use Rattle.table.specs.Forms.{sort}
 use Rattle.table.proofs.Suits.{all_hit, all_miss, all_end}

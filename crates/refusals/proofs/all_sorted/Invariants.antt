@@ -1,18 +1,12 @@
-use mathlib.Core.Path.{◌≡◌, refl, sym, ◌∙◌}
+use mathlib.Core.Path.{◌≡◌}
 use Prim.Native.Nat.{◌+◌, ◌-◌, ◌≤◌}
-use native.Mathlib.Omega.{arith}
-use borrow.Author.Rules.{rules}
 use lib.ListN.{length, drop}
-use borrow.Author.Tests.{not-true, not-false}
 use Rattle.arena.specs.Lists.{all}
 use Rattle.arena.specs.Nodes.{kind_at}
 use Rattle.arena.specs.Cells.{used}
-use Rattle.arena.proofs.Starts.{first_kind}
 use Rattle.runs.specs.Strides.{heads}
 use Rattle.table.specs.Call.{sort_ok}
 use Rattle.table.specs.Forms.{sort}
-use Rattle.table.proofs.Suits.{all_hit, all_miss, all_end}
-use Rattle.refusals.proofs.Sorts.{sorted_as, sort_pos}
 use Rattle.refusals.proofs.all_sorted.Given as goal
 
 abbrev pub invariant-loop-i : goal.invariant-loop-i

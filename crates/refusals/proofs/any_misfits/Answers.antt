@@ -1,12 +1,7 @@
-use mathlib.Core.Path.{◌≡◌, refl, sym, ◌∙◌}
-use Prim.Native.Nat.{◌+◌, ◌-◌, ◌≤◌}
+use mathlib.Core.Path.{refl, sym, ◌∙◌}
 use native.Mathlib.Omega.{arith}
-use mathlib.Core.Bool.{true}
-use lib.ListN.{length, drop}
-use Rattle.arena.specs.Lists.{all, any}
 use Rattle.arena.specs.Cells.{used}
 use Rattle.arena.specs.WellFormed.{is_term}
-use Rattle.runs.specs.Strides.{heads}
 use Rattle.table.specs.Forms.{misfit}
 use Rattle.table.proofs.Suits.{any_hit, any_miss, any_end, all_here, all-next}
 use Rattle.refusals.proofs.any_misfits.Goals as goal

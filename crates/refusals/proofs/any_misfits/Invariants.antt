@@ -1,6 +1,5 @@
-use mathlib.Core.Path.{◌≡◌, refl, sym, ◌∙◌}
+use mathlib.Core.Path.{◌≡◌}
 use Prim.Native.Nat.{◌+◌, ◌-◌, ◌≤◌}
-use native.Mathlib.Omega.{arith}
 use mathlib.Core.Bool.{true}
 use lib.ListN.{length, drop}
 use Rattle.arena.specs.Lists.{all, any}
@@ -8,7 +7,6 @@ use Rattle.arena.specs.Cells.{used}
 use Rattle.arena.specs.WellFormed.{is_term}
 use Rattle.runs.specs.Strides.{heads}
 use Rattle.table.specs.Forms.{misfit}
-use Rattle.table.proofs.Suits.{any_hit, any_miss, any_end, all_here, all-next}
 use Rattle.refusals.proofs.any_misfits.Given as goal
 
 abbrev pub invariant-loop-i : goal.invariant-loop-i

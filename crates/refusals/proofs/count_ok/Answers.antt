@@ -1,4 +1,3 @@
-use borrow.Author.Rules.{rules}
 use Rattle.table.specs.Call.{count_ok}
 use Rattle.refusals.proofs.count_ok.Goals as goal
 

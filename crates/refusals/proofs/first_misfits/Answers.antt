@@ -1,4 +1,3 @@
-use borrow.Author.Rules.{rules}
 use Rattle.arena.proofs.Runs.{all_get}
 use Rattle.refusals.proofs.first_misfits.Goals as goal
 

@@ -1,4 +1,3 @@
-use borrow.Author.Rules.{rules}
 use Rattle.arena.proofs.Runs.{all_get}
 use Rattle.arena.proofs.Chain.{term_pos}
 use Rattle.table.proofs.Suits.{type_pos}

@@ -1,4 +1,3 @@
-use borrow.Author.Rules.{rules}
 use borrow.Author.Tests.{eq-eqb, ne_eqb}
 use Rattle.table.proofs.Numbers.{shape_is}
 use Rattle.refusals.proofs.form_of.Goals as goal

@@ -1,8 +1,5 @@
-use mathlib.Core.Path.{◌≡◌, refl, ◌∙◌}
-use Prim.Native.Nat.{◌-◌, ◌≤◌}
+use mathlib.Core.Path.{refl, ◌∙◌}
 use native.Mathlib.Omega.{arith}
-use lib.ListN.{length, drop}
-use Rattle.arena.specs.Lists.{field}
 use Rattle.arena.proofs.Loops.{field_hit, field_miss, field_end}
 use Rattle.table.proofs.Suits.{lacks_none, lacks_some}
 use Rattle.refusals.proofs.lacks_attribute.Goals as goal

@@ -1,4 +1,3 @@
-use borrow.Author.Rules.{rules}
 use Rattle.table.specs.Call.{operands_ok}
 use Rattle.table.proofs.Suits.{odds_from}
 use Rattle.refusals.proofs.operands_ok.Goals as goal

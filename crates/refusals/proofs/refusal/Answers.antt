@@ -1,4 +1,3 @@
-use borrow.Author.Rules.{rules}
 use mathlib.Core.Path.{sym, ◌∙◌}
 use Rattle.arena.specs.Cells.{used}
 use Rattle.table.specs.Forms.{instr}

@@ -1,7 +1,5 @@
-use borrow.Author.Rules.{rules}
 use mathlib.Core.Path.{refl, sym, ap₂, ◌∙◌}
 use mathlib.Core.Bool.{◌&&◌}
-use borrow.Author.Tests.{not-true, not-false}
 use Rattle.arena.specs.Cells.{used}
 use Rattle.table.proofs.Suits.{sorts_few, sorts-terms, sorts-one, sorts-typed}
 use Rattle.refusals.proofs.sorts_ok.Goals as goal

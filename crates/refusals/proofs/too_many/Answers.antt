@@ -1,4 +1,3 @@
-use borrow.Author.Rules.{rules}
 use Rattle.table.specs.Call.{too_many}
 use Rattle.refusals.proofs.too_many.Goals as goal
 

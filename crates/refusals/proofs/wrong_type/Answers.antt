@@ -1,4 +1,3 @@
-use borrow.Author.Rules.{rules}
 use Rattle.table.proofs.Numbers.{known-top, from_core, from_bitvectors, from_helpers, from_compiled}
 use Rattle.refusals.proofs.wrong_type.Goals as goal
 

@@ -1,4 +1,3 @@
-use borrow.Author.Rules.{rules}
 use Rattle.arena.proofs.Bools.{every_on, every_off}
 use Rattle.runs.proofs.all5.Goals as goal
 

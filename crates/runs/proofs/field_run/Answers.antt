@@ -3,7 +3,6 @@ use mathlib.Core.Path.{◌∙◌}
 use Prim.Native.Nat.{◌%◌}
 use lib.Dec.{eqb, leb}
 use lib.ListN.{length}
-use borrow.Author.Rules.{rules}
 use Rattle.arena.specs.WellFormed.{field_run}
 use Rattle.arena.specs.Lists.{every}
 use Rattle.runs.proofs.field_run.Goals as goal

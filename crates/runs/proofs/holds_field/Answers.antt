@@ -1,8 +1,5 @@
-use mathlib.Core.Path.{◌≡◌, refl, ◌∙◌}
-use Prim.Native.Nat.{◌≤◌, ◌-◌}
+use mathlib.Core.Path.{refl, ◌∙◌}
 use native.Mathlib.Omega.{arith}
-use lib.ListN.{length, drop}
-use Rattle.arena.specs.Lists.{field}
 use Rattle.arena.proofs.Loops.{field_hit, field_miss, field_end}
 use Rattle.runs.proofs.Turns.{holds_some, holds_none}
 use Rattle.runs.proofs.holds_field.Goals as goal

@@ -1,10 +1,7 @@
-use mathlib.Core.Path.{◌≡◌, refl, ◌∙◌}
+use mathlib.Core.Path.{◌≡◌}
 use Prim.Native.Nat.{◌≤◌, ◌-◌}
-use native.Mathlib.Omega.{arith}
 use lib.ListN.{length, drop}
 use Rattle.arena.specs.Lists.{field}
-use Rattle.arena.proofs.Loops.{field_hit, field_miss, field_end}
-use Rattle.runs.proofs.Turns.{holds_some, holds_none}
 use Rattle.runs.proofs.holds_field.Given as goal
 
 abbrev pub invariant-loop-i : goal.invariant-loop-i

@@ -1,9 +1,6 @@
-use mathlib.Core.Path.{◌≡◌, refl, sym, ◌∙◌}
-use Prim.Native.Nat.{◌≤◌, ◌+◌, ◌-◌}
+use mathlib.Core.Path.{refl, sym, ◌∙◌}
 use native.Mathlib.Omega.{arith}
-use lib.ListN.{length, drop}
 use borrow.Author.Tests.{lt-ltb, le-ltb}
-use Rattle.arena.specs.Lists.{all, evens}
 use Rattle.arena.specs.WellFormed.{small}
 use Rattle.arena.proofs.Loops.{even_hit, even_miss, even_end}
 use Rattle.runs.proofs.keys_small.Goals as goal

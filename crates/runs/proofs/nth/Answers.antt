@@ -1,5 +1,4 @@
 use mathlib.Core.Path.{sym}
-use borrow.Author.Rules.{rules}
 use Rattle.arena.proofs.Lent.{get_far}
 use Rattle.runs.proofs.nth.Goals as goal
 

@@ -1,9 +1,5 @@
-use mathlib.Core.Path.{◌≡◌, refl, sym, ◌∙◌}
-use Prim.Native.Nat.{◌≤◌, ◌-◌}
+use mathlib.Core.Path.{refl, sym, ◌∙◌}
 use native.Mathlib.Omega.{arith}
-use lib.ListN.{length, drop}
-use Rattle.arena.specs.Lists.{rising}
-use Rattle.runs.specs.Strides.{heads}
 use Rattle.runs.proofs.Turns.{heads_hit, heads_miss, heads_end}
 use Rattle.runs.proofs.rises.Goals as goal
 

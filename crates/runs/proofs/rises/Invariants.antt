@@ -1,10 +1,8 @@
-use mathlib.Core.Path.{◌≡◌, refl, sym, ◌∙◌}
+use mathlib.Core.Path.{◌≡◌}
 use Prim.Native.Nat.{◌≤◌, ◌-◌}
-use native.Mathlib.Omega.{arith}
 use lib.ListN.{length, drop}
 use Rattle.arena.specs.Lists.{rising}
 use Rattle.runs.specs.Strides.{heads}
-use Rattle.runs.proofs.Turns.{heads_hit, heads_miss, heads_end}
 use Rattle.runs.proofs.rises.Given as goal
 
 abbrev pub invariant-loop-i : goal.invariant-loop-i

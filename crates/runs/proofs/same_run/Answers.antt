@@ -1,8 +1,5 @@
-use mathlib.Core.Path.{◌≡◌, refl, sym, ◌∙◌}
-use Prim.Native.Nat.{◌≤◌, ◌-◌}
+use mathlib.Core.Path.{refl, sym, ◌∙◌}
 use native.Mathlib.Omega.{arith}
-use lib.ListN.{length, drop}
-use Rattle.arena.specs.Lists.{same_list}
 use Rattle.arena.proofs.Loops.{list_hit, list_miss, list_end, list_length}
 use Rattle.runs.proofs.same_run.Goals as goal
 

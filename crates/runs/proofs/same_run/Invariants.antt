@@ -1,9 +1,7 @@
-use mathlib.Core.Path.{◌≡◌, refl, sym, ◌∙◌}
+use mathlib.Core.Path.{◌≡◌}
 use Prim.Native.Nat.{◌≤◌, ◌-◌}
-use native.Mathlib.Omega.{arith}
 use lib.ListN.{length, drop}
 use Rattle.arena.specs.Lists.{same_list}
-use Rattle.arena.proofs.Loops.{list_hit, list_miss, list_end, list_length}
 use Rattle.runs.proofs.same_run.Given as goal
 
 abbrev pub invariant-loop-i : goal.invariant-loop-i

@@ -1,10 +1,7 @@
-use mathlib.Core.Path.{◌≡◌, refl, sym, ◌∙◌}
-use Prim.Native.Nat.{◌≤◌, ◌-◌}
+use mathlib.Core.Path.{refl, sym, ◌∙◌}
 use native.Mathlib.Omega.{arith}
-use lib.ListN.{length, drop}
 use lib.Dec.{eqb}
 use borrow.Author.Tests.{eq-eqb, ne_eqb}
-use Rattle.arena.specs.Lists.{all}
 use Rattle.arena.proofs.Loops.{all_hit, all_miss, all_end}
 use Rattle.runs.proofs.zeros_from.Goals as goal
 

@@ -1,11 +1,8 @@
-use mathlib.Core.Path.{◌≡◌, refl, sym, ◌∙◌}
+use mathlib.Core.Path.{◌≡◌}
 use Prim.Native.Nat.{◌≤◌, ◌-◌}
-use native.Mathlib.Omega.{arith}
 use lib.ListN.{length, drop}
 use lib.Dec.{eqb}
-use borrow.Author.Tests.{eq-eqb, ne_eqb}
 use Rattle.arena.specs.Lists.{all}
-use Rattle.arena.proofs.Loops.{all_hit, all_miss, all_end}
 use Rattle.runs.proofs.zeros_from.Given as goal
 
 abbrev pub invariant-loop-i : goal.invariant-loop-i

@@ -1,4 +1,3 @@
-use borrow.Author.Rules.{rules}
 use mathlib.Core.Path.{refl}
 use Rattle.script.proofs.Going.{ran-long, ran-short, ready}
 use Rattle.script.proofs.run.Goals as goal

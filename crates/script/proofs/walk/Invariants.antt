@@ -1,9 +1,7 @@
 use Prim.Native.Nat.{◌-◌}
-use mathlib.Core.Path.{sym, ◌∙◌}
 use lib.ListN.{length}
-use native.Mathlib.Omega.{arith}
 use Rattle.script.specs.Script.{state}
-use Rattle.script.proofs.Going.{stepped_on, Going, going_none, going_length, going_room, going_stepped, going_end}
+use Rattle.script.proofs.Going.{Going}
 use Rattle.script.proofs.walk.Given as goal
 
 abbrev pub invariant-loop-place : goal.invariant-loop-place

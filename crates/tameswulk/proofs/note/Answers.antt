@@ -1,4 +1,3 @@
-use borrow.Author.Rules.{rules}
 use mathlib.Core.Path.{refl}
 use native.Mathlib.Nat.{pos_of_ne-zero}
 use Rattle.tameswulk.proofs.Giving.{noted_none, noted_one, above-one}

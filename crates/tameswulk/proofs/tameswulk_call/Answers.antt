@@ -1,4 +1,3 @@
-use borrow.Author.Rules.{rules}
 use Rattle.table.specs.Forms.{listed}
 use mathlib.Core.Path.{sym, ◌∙◌}
 use Rattle.arena.proofs.Formed.{formed-arena}

@@ -1,4 +1,3 @@
-use borrow.Author.Rules.{rules}
 use Rattle.table.specs.Forms.{listed}
 use mathlib.Core.Path.{refl}
 use Rattle.tameswulk.proofs.Giving.{gives}

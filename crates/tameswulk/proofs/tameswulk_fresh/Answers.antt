@@ -1,4 +1,3 @@
-use borrow.Author.Rules.{rules}
 use Rattle.tameswulk.proofs.tameswulk_fresh.Goals as goal
 
 pub returns : goal.returns

@@ -1,4 +1,3 @@
-use borrow.Author.Rules.{rules}
 use native.Mathlib.Omega.{arith}
 use Rattle.tameswulk.proofs.Giving.{other-cells, no_room, scripted}
 use Rattle.tameswulk.proofs.tameswulk_script.Goals as goal

@@ -1,4 +1,3 @@
-use borrow.Author.Rules.{rules}
 use Rattle.tameswulk.proofs.Giving.{tells_accepted, tells_refused}
 use Rattle.tameswulk.proofs.tell.Goals as goal
 

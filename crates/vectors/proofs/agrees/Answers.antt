@@ -1,6 +1,6 @@
 -- It says true only after every test, of which the last is of the answer.
 use borrow.Author.Rules.{rules}
-use borrow.Author.Tests.{eqb-true, not-false}
+use borrow.Author.Tests.{eqb-true}
 use mathlib.Core.Path.{sym, ◌∙◌}
 use native.Mathlib.Omega.{arith}
 use Rattle.vectors.proofs.Laws.{never, at_extend, at_plain}

@@ -1,5 +1,4 @@
 -- Each branch is the definition's own.
-use borrow.Author.Rules.{rules}
 use mathlib.Core.Path.{sym, ◌∙◌}
 use native.Mathlib.Omega.{arith}
 use Rattle.vectors.proofs.Laws.{cast_bit, at_neg, at-app, at_cmp, at_nego, at_so}

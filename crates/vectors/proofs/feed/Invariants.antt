@@ -1,5 +1,4 @@
 -- `vectors::feed` is safe and ends: each turn passes one byte.
-use borrow.Author.Rules.{rules}
 use Prim.Native.Nat.{◌-◌}
 use lib.ListN.{length}
 use Rattle.vectors.proofs.feed.Given as goal

@@ -1,5 +1,4 @@
 -- A remainder by 2 ^ width is below it.
-use borrow.Author.Rules.{rules}
 use borrow.Author.Tests.{eqb-true}
 use mathlib.Core.Path.{sym, ◌∙◌, subst}
 use Prim.Native.Nat.{ℕ, ◌<◌, ◌^◌}

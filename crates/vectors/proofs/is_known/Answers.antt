@@ -1,4 +1,3 @@
-use borrow.Author.Rules.{rules}
 use Rattle.vectors.proofs.Laws.{never}
 use Rattle.vectors.proofs.is_known.Goals as goal
 

@@ -1,5 +1,4 @@
 -- `vectors::read_number` is safe and ends: each turn passes one byte.
-use borrow.Author.Rules.{rules}
 use Prim.Native.Nat.{◌-◌}
 use lib.ListN.{length}
 use Rattle.vectors.proofs.read_number.Given as goal

@@ -1,5 +1,4 @@
 -- `vectors::shown_after` is safe and ends.
-use borrow.Author.Rules.{rules}
 use Prim.Native.Nat.{◌-◌}
 use mathlib.Core.Path.{◌≡◌}
 use lib.ListN.{length}

@@ -1,15 +1,7 @@
-use mathlib.Core.Path.{◌≡◌, refl}
-use Prim.Native.Nat.{◌≤◌, ◌-◌}
+use mathlib.Core.Path.{refl}
 use native.Mathlib.Omega.{arith}
-use lib.ListN.{length, drop}
 use borrow.Author.Rules.{rules}
-use borrow.Author.Tests.{not-true, not-false}
-use Rattle.arena.specs.Lists.{all}
-use Rattle.arena.specs.Nodes.{node_at, args}
-use Rattle.arena.specs.Cells.{used}
-use Rattle.arena.specs.Visit.{clean, Known}
 use Rattle.arena.proofs.Visit.{here, walk_set, walk_app, walk_flag, slot_fits, walk_args, arg_stands, arg_falls, walk_fails, walk_on, walk_ends}
-use Prim.Native.Nat.{ℕ, ◌<◌}
 use Rattle.walks.proofs.+walk.Goals as goal
 
 pub offset_bounds-cells-at : goal.offset_bounds-cells-at

@@ -1,16 +1,11 @@
 -- The measure is the position, which falls at each call. The loop's invariant: the node is clean exactly if the members from i on are, and the flags are right.
-use mathlib.Core.Path.{◌≡◌, refl}
+use mathlib.Core.Path.{◌≡◌}
 use Prim.Native.Nat.{◌≤◌, ◌-◌}
-use native.Mathlib.Omega.{arith}
 use lib.ListN.{length, drop}
-use borrow.Author.Rules.{rules}
-use borrow.Author.Tests.{not-true, not-false}
 use Rattle.arena.specs.Lists.{all}
 use Rattle.arena.specs.Nodes.{node_at, args}
 use Rattle.arena.specs.Cells.{used}
 use Rattle.arena.specs.Visit.{clean, Known}
-use Rattle.arena.proofs.Visit.{here, walk_set, walk_app, walk_flag, slot_fits, walk_args, arg_stands, arg_falls, walk_fails, walk_on, walk_ends}
-use Prim.Native.Nat.{ℕ, ◌<◌}
 use Rattle.walks.proofs.+walk.Given as goal
 
 abbrev pub invariant-loop-i : goal.invariant-loop-i

@@ -2,7 +2,6 @@ use Rattle.arena.proofs.Visit.{here}
 use Rattle.arena.proofs.Read.{at-odds, at_all}
 use native.Mathlib.Omega.{arith}
 use mathlib.Core.Path.{sym, ◌∙◌}
-use borrow.Author.Rules.{rules}
 use Rattle.walks.proofs.arg_at.Goals as goal
 
 pub offset_bounds-cells-at : goal.offset_bounds-cells-at

@@ -2,7 +2,6 @@ use Rattle.arena.proofs.Visit.{here}
 use Rattle.arena.proofs.Read.{count-odds, count-all}
 use native.Mathlib.Omega.{arith}
 use mathlib.Core.Path.{sym, ◌∙◌}
-use borrow.Author.Rules.{rules}
 use Rattle.walks.proofs.arg_count.Goals as goal
 
 pub overflow_add-n : goal.overflow_add-n

@@ -1,6 +1,5 @@
 use Rattle.arena.proofs.Visit.{here, known_none, term-stands, lit_simple, lit_app, lit_walked}
 use native.Mathlib.Omega.{arith}
-use borrow.Author.Rules.{rules}
 use Rattle.walks.proofs.is_literal.Goals as goal
 
 pub offset_bounds-cells-at : goal.offset_bounds-cells-at

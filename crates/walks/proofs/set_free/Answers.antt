@@ -1,6 +1,5 @@
 use Rattle.arena.proofs.Visit.{here, known_none, type-stands, set_here, set_simple, set_walked}
 use native.Mathlib.Omega.{arith}
-use borrow.Author.Rules.{rules}
 use Rattle.walks.proofs.set_free.Goals as goal
 
 pub offset_bounds-cells-at : goal.offset_bounds-cells-at

@@ -1,5 +1,3 @@
-use borrow.Author.Tests.{not-true, not-false}
-use borrow.Author.Rules.{rules}
 use Rattle.arena.specs.Cells.{used}
 use Rattle.node_tests.proofs.Arms.{good_off, elem_type, good_on}
 use Rattle.wellformed.proofs.good_node.Goals as goal

@@ -1,5 +1,3 @@
-use borrow.Author.Tests.{not-true, not-false}
-use borrow.Author.Rules.{rules}
 use Rattle.node_tests.proofs.Steps.{too_short, too_long, above, too_few, not_zeros, not_fresh, first}
 use Rattle.wellformed.proofs.is_formed.Goals as goal
 

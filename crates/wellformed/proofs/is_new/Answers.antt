@@ -1,7 +1,6 @@
 use mathlib.Core.Path.{sym, ◌∙◌}
-use Prim.Native.Nat.{◌≤◌, ◌-◌}
 use native.Mathlib.Omega.{arith}
-use Rattle.arena.proofs.Scan.{Scan, scan_fits, scan_hit, scan_miss, scan_end, find_absent}
+use Rattle.arena.proofs.Scan.{scan_fits, scan_hit, scan_miss, scan_end, find_absent}
 use Rattle.arena.proofs.Formed.{none_absent}
 use Rattle.arena.specs.Cells.{used, node_here}
 use Rattle.wellformed.proofs.Last.{from_last}

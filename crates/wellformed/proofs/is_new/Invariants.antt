@@ -1,10 +1,6 @@
-use mathlib.Core.Path.{sym, ◌∙◌}
 use Prim.Native.Nat.{◌≤◌, ◌-◌}
-use native.Mathlib.Omega.{arith}
-use Rattle.arena.proofs.Scan.{Scan, scan_fits, scan_hit, scan_miss, scan_end, find_absent}
-use Rattle.arena.proofs.Formed.{none_absent}
-use Rattle.arena.specs.Cells.{used, node_here}
-use Rattle.wellformed.proofs.Last.{from_last}
+use Rattle.arena.proofs.Scan.{Scan}
+use Rattle.arena.specs.Cells.{node_here}
 use Rattle.wellformed.proofs.is_new.Given as goal
 
 abbrev pub invariant-loop-p : goal.invariant-loop-p

@@ -2,7 +2,6 @@ use mathlib.Core.Path.{◌≡◌, ap}
 use Prim.Native.Nat.{ℕ, ◌+◌, ◌-◌}
 use native.Mathlib.Omega.{arith}
 use lib.ListN.{take, drop, get_or}
-use borrow.Author.Rules.{rules}
 use Rattle.arena.specs.Cells.{node_here}
 use Rattle.wellformed.proofs.members.Goals as goal
 

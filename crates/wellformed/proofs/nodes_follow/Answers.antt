@@ -1,12 +1,10 @@
 use mathlib.Core.Path.{sym, ◌∙◌}
-use Prim.Native.Nat.{◌-◌}
 use native.Mathlib.Omega.{arith}
-use lib.ListN.{length, length-set}
-use borrow.Author.Rules.{rules}
-use borrow.Author.Tests.{not-true, not-false}
+use lib.ListN.{length-set}
+use borrow.Author.Tests.{not-false}
 use Rattle.arena.proofs.Tiling.{next-below}
 use Rattle.arena.proofs.Lent.{next-starts}
-use Rattle.node_tests.proofs.Steps.{Going, begin, bad-room, bad_good, bad_new, at_end}
+use Rattle.node_tests.proofs.Steps.{begin, bad-room, bad_good, bad_new, at_end}
 use Rattle.wellformed.proofs.nodes_follow.Goals as goal
 
 pub loop-q-init : goal.loop-q-init

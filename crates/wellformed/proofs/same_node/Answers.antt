@@ -1,5 +1,4 @@
 use mathlib.Core.Path.{ap, ap₂, ◌∙◌}
-use borrow.Author.Rules.{rules}
 use Rattle.arena.specs.Cells.{node_here}
 use Rattle.arena.specs.Nodes.{Node}
 use Rattle.arena.specs.Lists.{same_list}

@@ -1,6 +1,5 @@
 use mathlib.Core.Path.{sym}
 use lib.Seq.{length-take-le}
-use borrow.Author.Rules.{rules}
 use Rattle.arena.specs.Cells.{cells}
 use Rattle.wellformed.proofs.starts_fresh.Goals as goal
 

@@ -1,8 +1,8 @@
 use mathlib.Core.List.{◌++◌, append-nil}
 use mathlib.Core.Path.{◌≡◌, refl, sym, ap, ◌∙◌}
-use Prim.Native.Nat.{ℕ, ◌-◌, ◌≤◌}
+use Prim.Native.Nat.{ℕ, ◌-◌}
 use native.Mathlib.Omega.{arith}
-use lib.ListN.{length, take, replicate, length-set}
+use lib.ListN.{take, replicate, length-set}
 use Rattle.arena.proofs.FreshCells.{clear_more, clear-all}
 use Rattle.arena.proofs.cells.clear_back.Goals as goal
 

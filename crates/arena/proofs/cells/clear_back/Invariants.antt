@@ -1,9 +1,7 @@
-use mathlib.Core.List.{◌++◌, append-nil}
-use mathlib.Core.Path.{◌≡◌, refl, sym, ap, ◌∙◌}
-use Prim.Native.Nat.{ℕ, ◌-◌, ◌≤◌}
-use native.Mathlib.Omega.{arith}
-use lib.ListN.{length, take, replicate, length-set}
-use Rattle.arena.proofs.FreshCells.{clear_more, clear-all}
+use mathlib.Core.List.{◌++◌}
+use mathlib.Core.Path.{◌≡◌}
+use Prim.Native.Nat.{◌-◌, ◌≤◌}
+use lib.ListN.{length, take, replicate}
 use Rattle.arena.proofs.cells.clear_back.Given as goal
 
 abbrev pub invariant-loop-i : goal.invariant-loop-i

@@ -1,4 +1,3 @@
-use borrow.Author.Rules.{rules}
 use mathlib.Core.Path.{ap}
 use lib.Dec.{leb}
 use Rattle.arena.proofs.cells.is_term.Goals as goal

@@ -1,4 +1,3 @@
-use borrow.Author.Rules.{rules}
 use Rattle.arena.proofs.Starts.{no-type, type_if}
 use Rattle.arena.proofs.cells.is_type.Goals as goal
 

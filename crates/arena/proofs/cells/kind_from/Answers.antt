@@ -1,6 +1,5 @@
-use mathlib.Core.Logic.{⊎_elim}
 use mathlib.Core.Path.{sym, subst}
-use Prim.Native.Nat.{ℕ, ◌≤◌, ◌-◌}
+use Prim.Native.Nat.{ℕ, ◌≤◌}
 use native.Mathlib.Omega.{arith}
 use Rattle.arena.proofs.Ext.{kind-known}
 use Rattle.arena.proofs.Formed.{mark_is}

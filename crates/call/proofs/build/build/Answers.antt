@@ -1,10 +1,8 @@
-use borrow.Author.Rules.{rules}
 use mathlib.Core.Path.{ap}
 use Rattle.table.proofs.Dispatch.{accepted-known, a_type}
 use Rattle.arena.specs.Cells.{used}
 use Rattle.nodes.specs.Replies.{type_reply, term_reply}
 use Rattle.arena.proofs.Steps.{seen}
-use borrow.Author.Rules.{rules}
 use Rattle.call.proofs.build.build.Goals as goal
 
 pub build_type-requires : goal.build_type-requires

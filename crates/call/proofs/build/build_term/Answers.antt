@@ -1,7 +1,5 @@
-use borrow.Author.Rules.{rules}
 use Rattle.table.proofs.Dispatch.{accepted-known, from_core, from_bitvectors, from_helpers, from_compiled}
 use Rattle.arena.specs.Cells.{used}
-use borrow.Author.Rules.{rules}
 use Rattle.call.proofs.build.build_term.Goals as goal
 
 pub build_maker-requires : goal.build_maker-requires

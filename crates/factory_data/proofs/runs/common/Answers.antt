@@ -1,14 +1,8 @@
-use Prim.Native.Nat.{◌≤◌, ◌-◌}
-use borrow.Author.Rules.{rules}
-use lib.ListN.{length, drop, take}
-use mathlib.Core.List.{◌++◌}
-use mathlib.Core.Path.{◌≡◌, refl, sym, ◌∙◌}
+use lib.ListN.{take}
+use mathlib.Core.Path.{refl, sym, ◌∙◌}
 use native.Mathlib.Omega.{arith}
 use Rattle.factory.proofs.Picks.{common-next, common_end}
-use Rattle.arena.specs.Lists.{common}
-use Rattle.arena.specs.Runs.{Holds}
 use Rattle.arena.proofs.Insertion.{holds_none, holds_as, holds_then}
-use borrow.Author.Rules.{rules}
 use Rattle.factory_data.proofs.runs.common.Goals as goal
 
 pub loop-i-init : goal.loop-i-init

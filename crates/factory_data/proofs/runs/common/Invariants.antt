@@ -1,14 +1,9 @@
 use Prim.Native.Nat.{◌≤◌, ◌-◌}
-use borrow.Author.Rules.{rules}
 use lib.ListN.{length, drop, take}
 use mathlib.Core.List.{◌++◌}
-use mathlib.Core.Path.{◌≡◌, refl, sym, ◌∙◌}
-use native.Mathlib.Omega.{arith}
-use Rattle.factory.proofs.Picks.{common-next, common_end}
+use mathlib.Core.Path.{◌≡◌}
 use Rattle.arena.specs.Lists.{common}
 use Rattle.arena.specs.Runs.{Holds}
-use Rattle.arena.proofs.Insertion.{holds_none, holds_as, holds_then}
-use borrow.Author.Rules.{rules}
 use Rattle.factory_data.proofs.runs.common.Given as goal
 
 abbrev pub invariant-loop-i : goal.invariant-loop-i

@@ -1,13 +1,8 @@
-use Prim.Native.Nat.{◌≤◌, ◌-◌}
-use borrow.Author.Rules.{rules}
 use borrow.Author.Tests.{eq-eqb, ne_eqb}
 use lib.Dec.{eqb}
-use lib.ListN.{length, drop}
-use mathlib.Core.Path.{◌≡◌, refl, sym, ◌∙◌}
+use mathlib.Core.Path.{refl, sym, ◌∙◌}
 use native.Mathlib.Omega.{arith}
-use Rattle.arena.specs.Lists.{mem?}
 use Rattle.arena.proofs.Loops.{any_hit, any_miss, any_end}
-use borrow.Author.Rules.{rules}
 use Rattle.factory_data.proofs.runs.contains.Goals as goal
 
 pub loop-i-init : goal.loop-i-init

@@ -1,12 +1,7 @@
-use Prim.Native.Nat.{◌≤◌, ◌-◌}
-use borrow.Author.Rules.{rules}
-use borrow.Author.Tests.{not-true, not-false}
-use lib.ListN.{length, drop}
-use mathlib.Core.Path.{◌≡◌, refl, sym, ◌∙◌}
+use mathlib.Core.Path.{refl, sym, ◌∙◌}
 use native.Mathlib.Omega.{arith}
-use Rattle.arena.specs.Lists.{all, mem?}
+use Rattle.arena.specs.Lists.{mem?}
 use Rattle.arena.proofs.Loops.{all_hit, all_miss, all_end}
-use borrow.Author.Rules.{rules}
 use Rattle.factory_data.proofs.runs.contains_all.Goals as goal
 
 pub loop-i-init : goal.loop-i-init

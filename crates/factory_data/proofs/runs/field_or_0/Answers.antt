@@ -1,13 +1,8 @@
-use Prim.Native.Nat.{◌≤◌, ◌-◌}
-use borrow.Author.Rules.{rules}
-use lib.ListN.{length, drop}
-use mathlib.Core.Path.{◌≡◌, refl, sym, ◌∙◌}
+use mathlib.Core.Path.{refl, sym, ◌∙◌}
 use native.Mathlib.Omega.{arith}
 use Rattle.factory.proofs.Picks.{field_none}
-use Rattle.arena.specs.Lists.{field}
 use Rattle.arena.proofs.Loops.{field_hit, field_miss, field_end}
 use Rattle.arena.proofs.Runs.{field-field_d}
-use borrow.Author.Rules.{rules}
 use Rattle.factory_data.proofs.runs.field_or_0.Goals as goal
 
 pub loop-i-init : goal.loop-i-init

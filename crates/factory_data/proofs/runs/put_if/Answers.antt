@@ -1,9 +1,7 @@
-use borrow.Author.Rules.{rules}
 use mathlib.Core.Path.{refl}
 use native.Mathlib.Omega.{arith}
 use Rattle.factory.proofs.Picks.{holds-one}
 use Rattle.arena.proofs.Insertion.{holds_same}
-use borrow.Author.Rules.{rules}
 use Rattle.factory_data.proofs.runs.put_if.Goals as goal
 
 pub returns-then-wanted : goal.returns-then-wanted

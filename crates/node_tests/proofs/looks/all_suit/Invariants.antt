@@ -1,12 +1,9 @@
-use mathlib.Core.Path.{◌≡◌, refl, sym, ◌∙◌}
+use mathlib.Core.Path.{◌≡◌}
 use Prim.Native.Nat.{◌≤◌, ◌-◌}
-use native.Mathlib.Omega.{arith}
 use lib.ListN.{length, drop}
-use borrow.Author.Tests.{not-true, not-false}
 use Rattle.arena.specs.Lists.{all}
 use Rattle.arena.specs.Cells.{used}
 use Rattle.runs.specs.Strides.{held}
-use Rattle.runs.proofs.Turns.{held_hit, held_miss, held_end}
 use Rattle.node_tests.specs.Decide.{wanted}
 use Rattle.node_tests.proofs.looks.all_suit.Given as goal
 

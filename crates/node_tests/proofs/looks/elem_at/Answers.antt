@@ -2,7 +2,6 @@ use mathlib.Core.List.{List}
 use mathlib.Core.Path.{ap, ◌∙◌}
 use Prim.Native.Nat.{ℕ}
 use lib.ListN.{get_or}
-use borrow.Author.Rules.{rules}
 use Rattle.node_tests.proofs.looks.elem_at.Goals as goal
 
 pub returns : goal.returns

@@ -1,9 +1,5 @@
-use mathlib.Core.Path.{◌≡◌, refl, sym, ◌∙◌}
-use Prim.Native.Nat.{◌≤◌, ◌-◌, ◌%◌}
+use mathlib.Core.Path.{refl, sym, ◌∙◌}
 use native.Mathlib.Omega.{arith}
-use lib.ListN.{length, drop}
-use Rattle.arena.specs.Lists.{same_list}
-use Rattle.arena.specs.Nodes.{field_types}
 use Rattle.arena.specs.Cells.{used}
 use Rattle.arena.proofs.Loops.{list_length, types_hit, types_miss, types_miss_2, types_end}
 use Rattle.node_tests.proofs.Stands.{types_length}

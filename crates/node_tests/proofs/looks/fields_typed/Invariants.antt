@@ -1,12 +1,9 @@
-use mathlib.Core.Path.{◌≡◌, refl, sym, ◌∙◌}
+use mathlib.Core.Path.{◌≡◌}
 use Prim.Native.Nat.{◌≤◌, ◌-◌, ◌%◌}
-use native.Mathlib.Omega.{arith}
 use lib.ListN.{length, drop}
 use Rattle.arena.specs.Lists.{same_list}
 use Rattle.arena.specs.Nodes.{field_types}
 use Rattle.arena.specs.Cells.{used}
-use Rattle.arena.proofs.Loops.{list_length, types_hit, types_miss, types_miss_2, types_end}
-use Rattle.node_tests.proofs.Stands.{types_length}
 use Rattle.node_tests.proofs.looks.fields_typed.Given as goal
 
 abbrev pub invariant-loop-i : goal.invariant-loop-i

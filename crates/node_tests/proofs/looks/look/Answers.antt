@@ -1,6 +1,5 @@
 use Prim.Native.Nat.{◌/◌}
 use native.Mathlib.Omega.{arith}
-use borrow.Author.Rules.{rules}
 use Rattle.node_tests.proofs.Stands.{none_past, none_there, own_slot, look_cell}
 use Rattle.node_tests.proofs.looks.look.Goals as goal
 

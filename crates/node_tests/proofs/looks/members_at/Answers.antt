@@ -1,5 +1,4 @@
 use native.Mathlib.Omega.{arith}
-use borrow.Author.Rules.{rules}
 use Rattle.node_tests.proofs.Stands.{no_members, members_fit, members_are}
 use Rattle.node_tests.proofs.looks.members_at.Goals as goal
 

@@ -1,4 +1,3 @@
-use borrow.Author.Rules.{rules}
 use Rattle.node_tests.proofs.looks.suits.Goals as goal
 
 pub returns-in-Kind : goal.returns-in-Kind

@@ -1,6 +1,5 @@
 use Prim.Native.Nat.{◌<◌, ◌^◌}
 use native.Mathlib.Omega.{arith}
-use borrow.Author.Rules.{rules}
 use Rattle.arena.proofs.Widths.{wide_fits, shift_fits}
 use Rattle.node_tests.proofs.tests.fits_width.Goals as goal
 

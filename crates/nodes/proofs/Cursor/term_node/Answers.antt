@@ -1,4 +1,3 @@
-use borrow.Author.Rules.{rules}
 use mathlib.Core.Path.{ap}
 use Rattle.nodes.specs.Replies.{node_reply}
 use Rattle.arena.proofs.Steps.{seen}

@@ -1,4 +1,3 @@
-use borrow.Author.Rules.{rules}
 use mathlib.Core.Path.{ap}
 use Rattle.nodes.specs.Replies.{type_reply}
 use Rattle.arena.specs.Nodes.{node, put}
