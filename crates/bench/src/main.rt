@@ -2,14 +2,14 @@
 
 #![tactic(auto)]
 
-use libc::{STDIN_FILENO, STDOUT_FILENO};
+use std::io;
 
-fn main() {
+fn main(rt: HostRuntime) -> io::Result<()> {
     // one byte more than a script may have tells a longer one
     let mut input = [0u8; script::LONGEST + 1];
-    let count = io::read_full(STDIN_FILENO, &mut input);
+    let count = reading::read_full(&mut rt.stdin(), &mut input)?;
     let mut cells = [0u64; 8192];
     let mut out = [0u8; script::ROOM];
     let end = script::run(&input[..count], &mut cells, &mut out);
-    io::write_all(STDOUT_FILENO, &out[..end]);
+    rt.write_all(&out[..end])
 }

@@ -3,11 +3,12 @@
 
 #![tactic(auto)]
 
-ghost use Rattle.std.specs.Prelude.{◌≡◌, ◌≤◌, length};
+ghost use Rattle.std.specs.Prelude.{◌≡◌, ◌≤◌, ℕ, length, IfOk, OnErr};
 ghost use Rattle.arena.specs.WellFormed.{IsArena};
 
 use instruction::Instruction;
-use libc::{STDIN_FILENO, STDOUT_FILENO};
+use std::io;
+use std::io::Read;
 use table::Answer;
 
 // Bytes that a script has at most.
@@ -79,26 +80,26 @@ fn resolved(results: &[u64], instruction: Instruction) -> Instruction
 
 // ---- lines
 
-fn say_answer(answer: Answer) {
+fn say_answer(rt: &impl Print, answer: Answer) -> io::Result<()> {
     let mut line = [0u8; 45];
     let end = answers::write_answer(&mut line, 0, answer);
-    io::write_all(STDOUT_FILENO, part(&line, 0, end));
+    rt.write_all(part(&line, 0, end))
 }
 
 // Writes the text where it gets full; answers where the next number goes.
-fn flushed(text: &[u8], end: usize) -> usize
-    ensures { result ≤ 4000 }
+fn flushed(rt: &impl Print, text: &[u8], end: usize) -> io::Result<usize>
+    ensures { IfOk result (λ next. next ≤ 4000) }
 {
     if end <= 4000 {
-        return end;
+        return Ok(end);
     }
-    io::write_all(STDOUT_FILENO, part(text, 0, end));
-    0
+    rt.write_all(part(text, 0, end))?;
+    Ok(0)
 }
 
 // The cells below the mark, some hundred at a time.
-fn say_cells(cells: &[u64], mark: usize) {
-    io::write_all(STDOUT_FILENO, b"cells");
+fn say_cells(rt: &impl Print, cells: &[u64], mark: usize) -> io::Result<()> {
+    rt.write_all(b"cells")?;
     let mut text = [0u8; 4096];
     let mut end: usize = 0;
     let mut i: usize = 0;
@@ -106,13 +107,13 @@ fn say_cells(cells: &[u64], mark: usize) {
         if i >= mark {
             break;
         }
-        let at = flushed(&text, end);
+        let at = flushed(rt, &text, end)?;
         text[at] = b' ';
         end = answers::write_decimal(&mut text, at + 1, cells[i]);
         i += 1;
     }
-    io::write_all(STDOUT_FILENO, part(&text, 0, end));
-    io::write_all(STDOUT_FILENO, b"\n");
+    rt.write_all(part(&text, 0, end))?;
+    rt.write_all(b"\n")
 }
 
 // ---- scripts
@@ -131,51 +132,63 @@ fn put(results: &mut [u64], line: usize, position: u64) {
 }
 
 // One instruction. Where none can be read, no byte is left.
-fn step(bytes: &[u8], cells: &mut [u64], results: &mut [u64], line: usize, place: Place) -> Place
+fn step(
+    rt: &impl Print,
+    bytes: &[u8],
+    cells: &mut [u64],
+    results: &mut [u64],
+    line: usize,
+    place: Place,
+) -> io::Result<Place>
     requires { IsArena cells.old place.mark }
-    ensures { IsArena cells.new result.mark }
+    ensures ok { IfOk result (λ next. IsArena cells.new next.mark) }
+    ensures err { OnErr result ((mark : ℕ) × IsArena cells.new mark) }
 {
     let read = codec::read_instruction(bytes, place.at);
     if !read.good {
-        say_answer(Answer::Refused(10));
-        return Place {
+        say_answer(rt, Answer::Refused(10))?;
+        return Ok(Place {
             at: bytes.len(),
             mark: place.mark,
-        };
+        });
     }
     let instruction = read.instruction;
     let answer = call::call_known(cells, place.mark, resolved(results, instruction));
-    say_answer(answer);
+    say_answer(rt, answer)?;
     put(results, line, position(answer));
-    Place {
+    Ok(Place {
         at: read.next,
         mark: answers::next_mark(place.mark, answer),
-    }
+    })
 }
 
 // One instruction after the other. The answer is the mark.
-fn walk(bytes: &[u8], cells: &mut [u64], results: &mut [u64], mark: usize) -> usize
+fn walk(
+    rt: &impl Print,
+    bytes: &[u8],
+    cells: &mut [u64],
+    results: &mut [u64],
+    mark: usize,
+) -> io::Result<usize>
     requires { IsArena cells.old mark }
 {
     let mut place = Place { at: 0, mark };
-    let mut line: usize = 0;
-    while line < LINES {
+    for line in 0..LINES {
         if place.at >= bytes.len() {
-            return place.mark;
+            break;
         }
-        place = step(bytes, cells, results, line, place);
-        line += 1;
+        place = step(rt, bytes, cells, results, line, place)?;
     }
-    place.mark
+    Ok(place.mark)
 }
 
 // A script in a fresh arena.
-fn run(bytes: &[u8], cells: &mut [u64], results: &mut [u64])
+fn run(rt: &impl Print, bytes: &[u8], cells: &mut [u64], results: &mut [u64]) -> io::Result<()>
     requires { length cells.old ≡ 65536 }
 {
     let mark = arena::cells::fresh(cells) as usize;
-    let end = walk(bytes, cells, results, mark);
-    say_cells(cells, end);
+    let end = walk(rt, bytes, cells, results, mark)?;
+    say_cells(rt, cells, end)
 }
 
 // ---- the input
@@ -187,39 +200,44 @@ fn wide(x: u8) -> usize
 }
 
 // How many bytes the next script has; one more than any has where there is none.
-fn next_size() -> usize {
+fn next_size(stdin: &mut impl Read) -> io::Result<usize> {
     let mut head = [0u8; 4];
-    if io::read_full(STDIN_FILENO, &mut head) < 4 {
-        return LONGEST + 1;
+    if reading::read_full(stdin, &mut head)? < 4 {
+        return Ok(LONGEST + 1);
     }
     if head[3] > 0 {
-        return LONGEST + 1;
+        return Ok(LONGEST + 1);
     }
-    wide(head[0]) + 256 * wide(head[1]) + 65536 * wide(head[2])
+    Ok(wide(head[0]) + 256 * wide(head[1]) + 65536 * wide(head[2]))
 }
 
 // The next script, where there is one.
-fn turn(input: &mut [u8], cells: &mut [u64], results: &mut [u64]) -> bool
+fn turn(
+    rt: &impl Print,
+    stdin: &mut impl Read,
+    input: &mut [u8],
+    cells: &mut [u64],
+    results: &mut [u64],
+) -> io::Result<bool>
     requires { length cells.old ≡ 65536 }
 {
-    let size = next_size();
+    let size = next_size(stdin)?;
     if size > input.len() {
-        return false;
+        return Ok(false);
     }
-    let count = io::read_full(STDIN_FILENO, &mut input[..size]);
-    run(part(input, 0, count), cells, results);
-    true
+    let count = reading::read_full(stdin, &mut input[..size])?;
+    run(rt, part(input, 0, count), cells, results)?;
+    Ok(true)
 }
 
-fn main() {
+fn main(rt: HostRuntime) -> io::Result<()> {
     let mut input = [0u8; LONGEST];
     let mut cells = [0u64; 65536];
     let mut results = [0u64; LINES];
-    let mut turns: u64 = 0;
-    while turns < 1000000 {
-        if !turn(&mut input, &mut cells, &mut results) {
-            return;
+    for _ in 0..1000000 {
+        if !turn(&rt, &mut rt.stdin(), &mut input, &mut cells, &mut results)? {
+            break;
         }
-        turns += 1;
     }
+    Ok(())
 }

@@ -4,7 +4,7 @@
 #![tactic(auto)]
 
 use codec::Number;
-use libc::{STDIN_FILENO, STDOUT_FILENO};
+use std::io;
 use table::Answer;
 
 // Bytes that are read at most.
@@ -40,18 +40,18 @@ fn part(s: &[u8], from: usize, to: usize) -> &[u8] {
 
 // ---- lines
 
-fn say_answer(answer: Answer) {
+fn say_answer(rt: &impl Print, answer: Answer) -> io::Result<()> {
     let mut line = [0u8; 45];
     let end = answers::write_answer(&mut line, 0, answer);
-    io::write_all(STDOUT_FILENO, part(&line, 0, end));
+    rt.write_all(part(&line, 0, end))
 }
 
 // A blank, and a number.
-fn say_number(n: u64) {
+fn say_number(rt: &impl Print, n: u64) -> io::Result<()> {
     let mut text = [0u8; 20];
     let end = answers::write_decimal(&mut text, 0, n);
-    io::write_all(STDOUT_FILENO, b" ");
-    io::write_all(STDOUT_FILENO, part(&text, 0, end));
+    rt.write_all(b" ")?;
+    rt.write_all(part(&text, 0, end))
 }
 
 // Cells of the node at a position, 0 where none can be there.
@@ -67,8 +67,8 @@ fn size(cells: &[u64], position: usize) -> u64 {
 }
 
 // The cells of the node at a position.
-fn say_node(cells: &[u64], position: usize) {
-    io::write_all(STDOUT_FILENO, b"node");
+fn say_node(rt: &impl Print, cells: &[u64], position: usize) -> io::Result<()> {
+    rt.write_all(b"node")?;
     let n = size(cells, position);
     let mut said: u64 = 0;
     let mut i = position;
@@ -76,11 +76,11 @@ fn say_node(cells: &[u64], position: usize) {
         if said >= n {
             break;
         }
-        say_number(cells[i]);
+        say_number(rt, cells[i])?;
         said += 1;
         i += 1;
     }
-    io::write_all(STDOUT_FILENO, b"\n");
+    rt.write_all(b"\n")
 }
 
 // ---- examples
@@ -97,65 +97,68 @@ fn number(bytes: &[u8], at: usize) -> Got {
 }
 
 // One instruction. Where none can be read, no byte is left.
-fn step(bytes: &[u8], cells: &mut [u64], place: Place) -> Place {
+fn step(rt: &impl Print, bytes: &[u8], cells: &mut [u64], place: Place) -> io::Result<Place> {
     let read = codec::read_instruction(bytes, place.at);
     if !read.good {
-        say_answer(Answer::Refused(10));
-        return Place {
+        say_answer(rt, Answer::Refused(10))?;
+        return Ok(Place {
             at: bytes.len(),
             mark: place.mark,
-        };
+        });
     }
     let instruction = read.instruction;
     let answer = call::call(cells, place.mark, instruction);
-    say_answer(answer);
-    Place {
+    say_answer(rt, answer)?;
+    Ok(Place {
         at: read.next,
         mark: answers::next_mark(place.mark as usize, answer) as u64,
-    }
+    })
 }
 
 // As many instructions as are said, in a fresh arena. The answer is the place behind them.
-fn walk(bytes: &[u8], cells: &mut [u64], count: u64, at: usize) -> usize {
+fn walk(
+    rt: &impl Print,
+    bytes: &[u8],
+    cells: &mut [u64],
+    count: u64,
+    at: usize,
+) -> io::Result<usize> {
     let mark = arena::cells::fresh(cells);
     let mut place = Place { at, mark };
-    let mut done: u64 = 0;
-    while done < count {
-        place = step(bytes, cells, place);
-        done += 1;
+    for _ in 0..count {
+        place = step(rt, bytes, cells, place)?;
     }
-    place.at
+    Ok(place.at)
 }
 
 // One example. The answer is the place behind it.
-fn row(bytes: &[u8], cells: &mut [u64], at: usize) -> usize {
+fn row(rt: &impl Print, bytes: &[u8], cells: &mut [u64], at: usize) -> io::Result<usize> {
     let length = number(bytes, at);
     let position = number(bytes, length.next);
     let count = number(bytes, position.next);
     let n = length.value as usize;
     if n > cells.len() {
-        return bytes.len();
+        return Ok(bytes.len());
     }
-    let end = walk(bytes, &mut cells[..n], count.value, count.next);
-    say_node(cells, position.value as usize);
-    end
+    let end = walk(rt, bytes, &mut cells[..n], count.value, count.next)?;
+    say_node(rt, cells, position.value as usize)?;
+    Ok(end)
 }
 
-fn rows(bytes: &[u8], cells: &mut [u64]) {
+fn rows(rt: &impl Print, bytes: &[u8], cells: &mut [u64]) -> io::Result<()> {
     let mut at: usize = 0;
-    let mut done: u64 = 0;
-    while done < ROWS {
+    for _ in 0..ROWS {
         if at >= bytes.len() {
-            return;
+            break;
         }
-        at = row(bytes, cells, at);
-        done += 1;
+        at = row(rt, bytes, cells, at)?;
     }
+    Ok(())
 }
 
-fn main() {
+fn main(rt: HostRuntime) -> io::Result<()> {
     let mut input = [0u8; LONGEST];
-    let count = io::read_full(STDIN_FILENO, &mut input);
+    let count = reading::read_full(&mut rt.stdin(), &mut input)?;
     let mut cells = [0u64; 8192];
-    rows(part(&input, 0, count), &mut cells);
+    rows(&rt, part(&input, 0, count), &mut cells)
 }

@@ -9,8 +9,8 @@ ghost use Rattle.std.specs.Io.KnownBytes.{Consumes, IsAtEnd};
 use std::io;
 use std::io::Read;
 
-/// Reads until `buf` is full or the input ends, and answers how many bytes it put at the start of `buf`.
-/// What was read before a read that fails is lost.
+// Reads until `buf` is full or the input ends, and answers how many bytes it put at the start of `buf`. After a read that failed,
+// some bytes may have been read, and stand in `buf`.
 pub fn read_full<R: Read>(input: &mut R, buf: &mut [u8]) -> io::Result<usize>
     ensures bound { ReadsAtMost result buf.new }
     ensures bytes { IfOk result (λ n. Consumes (R.remaining input.old) (R.remaining input.new) (take n buf.new)) }
