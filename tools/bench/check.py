@@ -1,6 +1,6 @@
 #!/usr/bin/env python3
 """Runs the program bench from outside: what it is given, how its bytes come, and how its lines are taken. README.md beside it says what is
-compared. `--program PATH` runs that program as it stands; without it, target/bin/bench is proved and built. Reads bytes by a reading of its own, and nothing of the crates' code."""
+compared. `--program PATH` runs that program as it stands; without it, crates/bench/out/bench is proved and built. Reads bytes by a reading of its own, and nothing of the crates' code."""
 import argparse
 import collections
 import fcntl
@@ -19,8 +19,6 @@ import time
 HERE = pathlib.Path(__file__).resolve().parent
 ROOT = HERE.parents[1]
 PAGE = ROOT / "docs" / "SCRIPTS.md"
-# what runs a proved program on any processor
-RUN = subprocess.run([ROOT / "tools/run", "--words"], stdout=subprocess.PIPE, text=True, check=True).stdout.splitlines()
 EXAMPLE = ROOT / "examples" / "version.hex"
 TABLES = [(ROOT / "crates/script/proofs/Examples.antt", "examples"), (ROOT / "crates/cut_scripts/proofs/Damaged.antt", "damaged")]
 
@@ -89,7 +87,7 @@ class Check:
         self.different = 0
 
     def run(self, data):
-        return subprocess.run([*RUN, self.program], input=data, stdout=subprocess.PIPE, timeout=PATIENCE, check=True).stdout
+        return subprocess.run([self.program], input=data, stdout=subprocess.PIPE, timeout=PATIENCE, check=True).stdout
 
     def differ(self, name, data, expected, got):
         self.different += 1
@@ -310,7 +308,7 @@ def fed(program, data, sizes, pauses, made_by):
         ours, theirs = socket.socketpair()
         read_end = theirs.detach()
         send, close = (lambda piece: ours.send(piece)), ours.close
-    process = subprocess.Popen([*RUN, program], stdin=read_end, stdout=subprocess.PIPE)
+    process = subprocess.Popen([program], stdin=read_end, stdout=subprocess.PIPE)
     os.close(read_end)
 
     def feed():
@@ -339,7 +337,7 @@ def ended(process, out, feeder):
 def taken(program, data, size, stops, small_pipe):
     """The output where it is read slowly in small pieces, from a pipe that holds little; the program is stopped and let go on `stops` times
     while it writes, which cuts a write short."""
-    process = subprocess.Popen([*RUN, program], stdin=subprocess.PIPE, stdout=subprocess.PIPE)
+    process = subprocess.Popen([program], stdin=subprocess.PIPE, stdout=subprocess.PIPE)
     if small_pipe:
         fcntl.fcntl(process.stdout.fileno(), fcntl.F_SETPIPE_SZ, 4096)
 
@@ -374,7 +372,7 @@ def ways(check, scripts):
             file.write(data)
             file.flush()
             file.seek(0)
-            got = subprocess.run([*RUN, check.program], stdin=file, stdout=subprocess.PIPE, timeout=PATIENCE, check=True).stdout
+            got = subprocess.run([check.program], stdin=file, stdout=subprocess.PIPE, timeout=PATIENCE, check=True).stdout
             check.equal("from a file", data, lines, got)
         for made_by in ("pipe", "socket"):
             for sizes in ([1], [7], [1, 4096, 3], [65_535, 1]):
@@ -421,14 +419,14 @@ def main():
     options.add_argument("--program", type=pathlib.Path)
     program = options.parse_args().program
     if not program:
-        program = ROOT / "target/bin/bench"
+        program = ROOT / "crates/bench/out/bench"
         built = subprocess.run(
-            ["rt", "check", "bench"], cwd=ROOT, stdin=subprocess.DEVNULL, stdout=subprocess.PIPE, stderr=subprocess.STDOUT, text=True
+            ["rt", "run"], cwd=ROOT / "crates/bench", stdin=subprocess.DEVNULL, stdout=subprocess.PIPE, stderr=subprocess.STDOUT, text=True
         )
         if built.returncode != 0:
             print(built.stdout.strip())
             return 1
-    return all_checks(program)
+    return all_checks(program.resolve())
 
 
 if __name__ == "__main__":

@@ -6,7 +6,7 @@
     compare.py --stored                 the stored scripts, with the answers that the original gave
     compare.py --store                  asks the original again for the stored answers
 
-`--program PATH` runs that program as it stands; without it, target/bin/cells is proved and built. Exit status 77: the original or the program is not to be had here.
+`--program PATH` runs that program as it stands; without it, crates/cells/out/cells is proved and built. Exit status 77: the original or the program is not to be had here.
 """
 
 import argparse
@@ -28,8 +28,6 @@ HERE = pathlib.Path(__file__).resolve().parent
 ROOT = HERE.parents[1]
 ORACLE = ROOT / "oracle"
 STORED = HERE / "stored.txt.gz"
-# runs a proved program on any processor
-RUN = ROOT / "tools/run"
 
 SEED = 20_261_201
 CHECKED = 2_500
@@ -62,7 +60,7 @@ def asked_of_ours(program, batch):
     for script in batch:
         data = b"".join(map(scripts.line_bytes, script.lines))
         stream += struct.pack("<I", len(data)) + data
-    run = subprocess.run([RUN, program], input=bytes(stream), stdout=subprocess.PIPE, check=True)
+    run = subprocess.run([program], input=bytes(stream), stdout=subprocess.PIPE, check=True)
     answers = iter(run.stdout.decode().splitlines())
     taken = []
     for script in batch:
@@ -286,7 +284,7 @@ def program_status(program):
     if not shutil.which("rt"):
         print("not compared with the original: there is no rt")
         return 77
-    built = run_quietly(["rt", "check", "cells"], cwd=ROOT)
+    built = run_quietly(["rt", "run"], cwd=ROOT / "crates/cells")
     if built.returncode != 0:
         print(built.stdout.strip())
     return built.returncode
@@ -317,7 +315,7 @@ def main():
     status = (not given.stored and oracle_status()) or (not given.store and program_status(given.program))
     if status:
         return status
-    program = given.program or ROOT / "target/bin/cells"
+    program = given.program.resolve() if given.program else ROOT / "crates/cells/out/cells"
     if given.store:
         STORED.write_bytes(gzip.compress(stored_text().encode(), mtime=0))
         return 0

@@ -25,7 +25,7 @@ if [ "${1:-}" = --build ]; then
     quietly cargo build --release --offline -p oracle
     exit
 fi
-[ -f "${TAMESWULK_LIB:-target/staticlib}/libtameswulk.a" ] || quietly rt staticlib tameswulk
+[ -f "${TAMESWULK_LIB:-crates/tameswulk/out}/libtameswulk.a" ] || quietly env -C crates/tameswulk rt lib
 cd oracle
 quietly cargo test --release --offline -p beside --test beside -- --show-output
 awk '/^counted/ { n[$2] += $3 }

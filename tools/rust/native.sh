@@ -15,9 +15,9 @@ crates=(bitvec bitvec_closures arena nodes walks sorting runs node_tests node_ki
 for crate in "${crates[@]}"; do
     mkdir "$build/$crate"
     for file in "crates/$crate"/src/*.rt; do
-        # no contracts, values copied, slices passed as Rust passes them; native.rs has the functions that C calls
-        sed -E '/^ *(ghost use|requires|ensures) /d; s/^pub (enum|struct) /#[derive(Clone, Copy)]\n&/
-            s/std::num::wrapping_(add|sub|mul)_u64\(/u64::wrapping_\1(/; /^#\[no_mangle\]$/d; s/^pub extern "C" fn/pub fn/' \
+        # no contracts, slices passed as Rust passes them; native.rs has the functions that C calls
+        sed -E '/^ *(ghost use|requires|ensures) |^#!?\[(tactic\(|unsafe\(no_mangle\))/d
+            s/std::num::wrapping_(add|sub|mul)_u64\(/u64::wrapping_\1(/; s/^pub extern "C" fn/pub fn/' \
             "$file" >"$build/$crate/$(basename "$file" .rt).rs"
     done
     [ "$crate" != tameswulk ] || cat tools/rust/native.rs >>"$build/tameswulk/lib.rs"

@@ -1,14 +1,17 @@
 #!/bin/bash
-# Proves and builds the library, and runs the tests, the example and the documentation of the Rust crate over it, with nothing
-# from the network but Debian's packages. Ends with status 77 where there is no cargo, or no way to run x86-64 programs.
+# Proves and builds the library, unless TAMESWULK_LIB names a folder with the archive, and runs the tests, the example and the documentation of
+# the Rust crate over it, with nothing from the network but Debian's packages. Ends with status 77 where there is no cargo, or no way to run
+# x86-64 programs.
 set -euo pipefail
 cd "$(dirname "$(readlink -f "$0")")/../.."
 source tools/rust/quietly.sh rust
 source tools/rust/cross.sh rust
 
-# an archive is built anew, so that no older one is tested
-rm -f target/staticlib/libtameswulk.a
-quietly rt staticlib tameswulk
+if [ -z "${TAMESWULK_LIB:-}" ]; then
+    # an archive is built anew, so that no older one is tested
+    rm -f crates/tameswulk/out/libtameswulk.a
+    quietly env -C crates/tameswulk rt lib
+fi
 cd rust
 quietly cargo test --offline
 echo "rust: $(awk '/^test result: ok/ { n += $4 } END { print n }' "$log") tests passed"

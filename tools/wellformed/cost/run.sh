@@ -6,9 +6,9 @@ crates=../../../crates
 build=$(mktemp -d)
 trap 'rm -rf "$build"' EXIT
 
-# A Rattle file as Rust: no contracts, values copied, each crate a module.
+# A Rattle file as Rust: no contracts, each crate a module.
 as_rust() {
-    sed -E '/^ *(ghost use|requires|ensures) /d; s/\b(walks|runs|node_tests|node_kinds)::/crate::&/g; s/^pub enum /#[derive(Clone, Copy)]\n&/' "$1" >"$2"
+    sed -E '/^ *(ghost use|requires|ensures) |^#!?\[tactic\(/d; s/\b(walks|runs|node_tests|node_kinds)::/crate::&/g' "$1" >"$2"
 }
 
 for crate in walks runs node_tests node_kinds wellformed; do
