@@ -8,5 +8,3 @@ invariant-loop-p l = Scan l.cells l.q (node_here l.cells l.q) l.p × (l.p ≤ l.
 
 abbrev pub decreases-loop-p : goal.decreases-loop-p
 decreases-loop-p l = l.q - l.p
-
--- the l.cells up to the l.last member are there
