@@ -37,6 +37,7 @@ pub fn fresh(cells: &mut [u64]) -> u64
 }
 
 // The kind of the node that starts at p, 0 where none does. The walk begins at the node that starts at `from`, where p is not below it.
+#[tactic(auto, using(crate::proofs::Starts::past_fits))]
 pub fn kind_from(cells: &[u64], mark: usize, from: u64, p: u64) -> u64
     requires below { Below cells.now mark }
     requires bound { 1 ≤ kind_at (used cells.now mark) from }

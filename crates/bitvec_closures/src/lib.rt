@@ -90,6 +90,7 @@ pub fn smulo(width: Width, lhs: u64, rhs: u64) -> bool
 }
 
 // Operations 31 to 40 by number: a decision stands for the Rust's closure.
+#[tactic(auto, unfolding(smtlib::specs::Numbered::bvapp_of))]
 pub fn bvapp(op: u64, width: Width, lhs: u64, rhs: u64) -> u64
     requires { AreBv width.0 lhs rhs }
     ensures { result ≡ bvapp_of op width.0 lhs rhs }
@@ -109,6 +110,7 @@ pub fn bvapp(op: u64, width: Width, lhs: u64, rhs: u64) -> u64
 }
 
 // Operations 41 to 44 by number.
+#[tactic(auto, unfolding(smtlib::specs::Numbered::bvcmp_of))]
 pub fn bvcmp(op: u64, width: Width, lhs: u64, rhs: u64) -> bool
     requires { AreBv width.0 lhs rhs }
     ensures { result ≡ bvcmp_of op width.0 lhs rhs }
@@ -122,6 +124,7 @@ pub fn bvcmp(op: u64, width: Width, lhs: u64, rhs: u64) -> bool
 }
 
 // Operations 46 to 48 by number.
+#[tactic(auto, unfolding(smtlib::specs::Numbered::bvso_of))]
 pub fn bvso(op: u64, width: Width, lhs: u64, rhs: u64) -> bool
     requires { AreBv width.0 lhs rhs }
     ensures { result ≡ bvso_of op width.0 lhs rhs }

@@ -40,6 +40,7 @@ fn same_node(cells: &[u64], p: usize, q: usize) -> bool
 
 // Whether no node below q has the cells of the good node at q. It would stand above the last member, so the search begins there; behind a count
 // of 0 stands no member, and the count itself is where the first node starts.
+#[tactic(auto, using(arena::proofs::Scan::scan_fits))]
 fn is_new(cells: &[u64], q: usize) -> bool
     requires below { Below cells.now q }
     requires q_in_bounds { after cells.now q ≤ length cells.now }

@@ -20,9 +20,6 @@ loop-i-preserved c =
       byte_more l.out _ s.bytes.now s.at l.i l.invariant.2 c.loop-i-test.true,
     )
 
-pub shape_of-out : goal.shape_of-out
-shape_of-out c = c.loop-i.invariant.1
-
 pub returns : goal.returns
 returns c =
     let l = c.loop-i in

@@ -39,9 +39,6 @@ pub bounds-out-last-2 : goal.bounds-out-last-2
 bounds-out-last-2 c =
     omega (arith, decimal-most c.args.n c.ranges.n.fits)
 
-pub shape_of-out : goal.shape_of-out
-shape_of-out c = simp length-set c.loop-rest.invariant.0
-
 pub returns : goal.returns
 returns c =
     let l = c.loop-rest in

@@ -8,9 +8,6 @@ use Rattle.call.proofs.call.Goals as goal
 pub call_known-requires : goal.call_known-requires
 call_known-requires c = formed-arena _ _ (sym c.is_formed.ensures ∙ c.if-is_formed.true)
 
-pub returns-then-is_formed : goal.returns-then-is_formed
-returns-then-is_formed c = c.call_known.ensures
-
 pub returns : goal.returns
 returns c =
     let z = not_formed c.args.cells.now c.args.mark (instr_of c.args.instruction) (sym c.is_formed.ensures ∙ c.if-is_formed.false) in

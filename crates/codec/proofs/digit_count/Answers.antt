@@ -1,11 +1,7 @@
 use native.Mathlib.Nat.{div-lt_self}
 use native.Mathlib.Omega.{arith}
-use borrow.Author.Rules.{rules}
 use Rattle.codec.proofs.Turns.{count_more, count_end}
 use Rattle.codec.proofs.digit_count.Goals as goal
-
-pub loop-rest-init : goal.loop-rest-init
-loop-rest-init c = record { small = search rules; total = search rules }
 
 pub loop-rest-smaller : goal.loop-rest-smaller
 loop-rest-smaller c = div-lt_self (omega arith) c.requires

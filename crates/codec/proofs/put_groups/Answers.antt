@@ -1,4 +1,4 @@
-use mathlib.Core.Path.{refl, ◌∙◌}
+use mathlib.Core.Path.{◌∙◌}
 use native.Mathlib.Omega.{arith}
 use Prim.Native.Nat.{◌+◌, ◌%◌}
 use lib.ListN.{length-set}
@@ -6,9 +6,6 @@ use Rattle.codec.proofs.Groups.{groups_some}
 use Rattle.codec.proofs.Turns.{group_more, group_end}
 use Rattle.codec.proofs.Putting.{sets_puts}
 use Rattle.codec.proofs.put_groups.Goals as goal
-
-pub loop-rest-init : goal.loop-rest-init
-loop-rest-init c = (refl, refl, refl)
 
 pub bounds-out-next : goal.bounds-out-next
 bounds-out-next c = omega (arith, groups_some c.loop-rest.rest)
@@ -27,9 +24,6 @@ bounds-out-next-2 c = omega (arith, groups_some c.loop-rest.rest)
 
 pub overflow_add-result : goal.overflow_add-result
 overflow_add-result c = omega (arith, groups_some c.loop-rest.rest)
-
-pub shape_of-out : goal.shape_of-out
-shape_of-out c = simp length-set c.loop-rest.invariant.0
 
 pub returns : goal.returns
 returns c =

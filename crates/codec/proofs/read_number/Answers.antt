@@ -12,7 +12,7 @@ use Rattle.codec.proofs.read_number.Goals as goal
 pub loop-next-init : goal.loop-next-init
 loop-next-init c = (
   search rules,
-  by_steps c.args.bytes.now c.args.at (λ k. omega (arith, c.shared_slice_known-1.given k)),
+  by_steps c.args.bytes.now c.args.at (λ k. omega (arith, c.type_inv.bytes k)),
 )
 
 pub returns-then-passes : goal.returns-then-passes

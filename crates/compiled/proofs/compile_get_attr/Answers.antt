@@ -30,9 +30,6 @@ kind_of-option-requires c =
     let w = ready_wf s in
     record { below = s.arena.below; bound = rw ((c.field_or_0-of.ensures ∙ ap (λ (r : List ℕ). field_d r c.args.k) (c.members_of.ensures ∙ ap (mem_at (used c.args.cells.now c.args.cursor.mark)) c.type_of-ty.ensures))) (type-kind _ _ (field-type w (type_at _ c.args.t.0) c.args.k _ s.fit.rec.sort s.fit.there)).0 }
 
-pub record_get-requires : goal.record_get-requires
-record_get-requires c = record { arena = c.requires.arena; fit = c.requires.fit.rec.isterm }
-
 pub optioned-requires : goal.optioned-requires
 optioned-requires c =
     let s = c.requires in

@@ -14,12 +14,6 @@ use Rattle.arena.proofs.Insertion.{holds-length}
 use Rattle.arena.proofs.Steps.{did_stop}
 use Rattle.compiled.proofs.compile_record.Goals as goal
 
-pub listed_options-n-requires : goal.listed_options-n-requires
-listed_options-n-requires c = let p = c.requires.list_len_bound in omega arith
-
-pub get_fields-requires : goal.get_fields-requires
-get_fields-requires c = record { ready = record { arena = c.requires.ready.arena; fit = c.requires.ready.fit.0 }; list_len = c.requires.list_len; list_in_bounds = c.requires.list_len_bound }
-
 pub slice_bounds-record_if_all-end : goal.slice_bounds-record_if_all-end
 slice_bounds-record_if_all-end c = holds-length c.listed_options-n.ensures
 

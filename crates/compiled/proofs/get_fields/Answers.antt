@@ -13,17 +13,11 @@ loop-i-init c = (omega arith, refl, refl, refl, left-start c.args.list.now c.req
 pub option_get-requires : goal.option_get-requires
 option_get-requires c = let l = left-two c.args.list.now c.loop-i.i c.loop-i-test.true c.loop-i.invariant.4 in record { arena = l.ready.arena; fit = (left-first _ _ _ l).isterm }
 
-pub bounds-inner-i : goal.bounds-inner-i
-bounds-inner-i c = let p = c.requires.list_in_bounds in let l = c.loop-i.invariant.3 in let t = c.loop-i-test.true in omega arith
-
 pub bounds-inner-i-in-At : goal.bounds-inner-i-in-At
 bounds-inner-i-in-At c = let p = c.requires.list_in_bounds in let l = c.loop-i.invariant.3 in let t = c.loop-i-test.true in let z = length-set c.loop-i.inner c.loop-i.i (get_or c.args.list.now c.loop-i.i 0) in omega arith
 
 pub shape_of-cells-in-Full : goal.shape_of-cells-in-Full
 shape_of-cells-in-Full c = c.option_get.ensures.long ∙ c.loop-i.invariant.2
-
-pub shape_of-inner-in-Full : goal.shape_of-inner-in-Full
-shape_of-inner-in-Full c = c.loop-i.invariant.3
 
 pub returns-in-Full : goal.returns-in-Full
 returns-in-Full c = record { did = left-full _ _ _ (left-two c.args.list.now c.loop-i.i c.loop-i-test.true c.loop-i.invariant.4) (ap term_reply c.in-Full.is) c.option_get.ensures (let p = c.requires.list_len in let h = c.loop-i.invariant.1 in let t = c.loop-i-test.true in let z = length-drop (c.loop-i.i + 2) c.args.list.now in omega arith); holds_inner = tt }
@@ -35,12 +29,6 @@ loop-i-preserved c =
     let k : l.i + 1 < length l.inner = let p = c.requires.list_in_bounds in let h = l.invariant.3 in omega arith in
     let z = left_write l.inner l.i _ _ _ k (left-two c.args.list.now l.i t l.invariant.4) (ap term_reply c.in-At.is) c.option_get.ensures in
     (omega arith, omega arith, c.option_get.ensures.long ∙ l.invariant.2, z.0 ∙ l.invariant.3, z.1, z.2 (length c.args.list.now) (omega arith) ∙ l.invariant.5)
-
-pub shape_of-cells : goal.shape_of-cells
-shape_of-cells c = c.loop-i.invariant.2
-
-pub shape_of-inner : goal.shape_of-inner
-shape_of-inner c = c.loop-i.invariant.3
 
 pub returns : goal.returns
 returns c =

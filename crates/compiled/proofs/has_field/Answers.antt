@@ -1,11 +1,8 @@
-use mathlib.Core.Path.{refl, sym, ◌∙◌}
+use mathlib.Core.Path.{sym, ◌∙◌}
 use native.Mathlib.Omega.{arith}
 use Rattle.compiler.proofs.Optional.{has_some_lem, has_none}
 use Rattle.arena.proofs.Loops.{field_hit, field_miss, field_end}
 use Rattle.compiled.proofs.has_field.Goals as goal
-
-pub loop-i-init : goal.loop-i-init
-loop-i-init c = (omega arith, refl)
 
 pub returns-then-fields-i : goal.returns-then-fields-i
 returns-then-fields-i c = sym (has_some_lem c.args.fields.now c.args.k _ (c.loop-i.invariant.1 ∙ field_hit c.args.fields.now c.args.k c.loop-i.i c.loop-i-test.true c.if-fields-i.true))

@@ -13,9 +13,6 @@ use Rattle.arena.proofs.Ext.{ext_trans}
 use Rattle.arena.proofs.Steps.{did_then, did_stop}
 use Rattle.compiled.proofs.has_optional.Goals as goal
 
-pub record_get-requires : goal.record_get-requires
-record_get-requires c = record { arena = c.requires.arena; fit = c.requires.fit.has.rec.isterm }
-
 pub has_some-requires : goal.has_some-requires
 has_some-requires c =
     let s = c.requires in

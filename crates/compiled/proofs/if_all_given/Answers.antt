@@ -12,9 +12,6 @@ use Rattle.arena.specs.WellFormed.{is_term}
 use Rattle.arena.proofs.Steps.{did_then, did_stop}
 use Rattle.compiled.proofs.if_all_given.Goals as goal
 
-pub some_of-requires : goal.some_of-requires
-some_of-requires c = record { arena = c.requires.arena; fit = c.requires.fit.1 }
-
 pub if_all_some-requires : goal.if_all_some-requires
 if_all_some-requires c =
     let s = c.requires in

@@ -10,9 +10,6 @@ use Rattle.compiled.proofs.listed_options.Goals as goal
 pub loop-i-init : goal.loop-i-init
 loop-i-init c = (refl, omega arith, refl, holds_none c.args.held.now, refl)
 
-pub bounds-held-n : goal.bounds-held-n
-bounds-held-n c = let p = c.requires in let l = c.loop-i.invariant in let t = c.loop-i-test.true in omega arith
-
 pub loop-i-preserved : goal.loop-i-preserved
 loop-i-preserved c =
     let l = c.loop-i in
@@ -26,9 +23,6 @@ loop-i-preserved c =
       holds_as (sym o.front) (holds_then l.invariant.3 o (omega arith)),
       l.invariant.4 ∙ odds-next c.args.list.now (take l.n l.held) _ l.i t o.front,
     )
-
-pub shape_of-held : goal.shape_of-held
-shape_of-held c = c.loop-i.invariant.2
 
 pub returns : goal.returns
 returns c = holds_as (sym (c.loop-i.invariant.4 ∙ odds_last c.args.list.now (take c.loop-i.n c.loop-i.held) c.loop-i.i c.loop-i-test.false)) c.loop-i.invariant.3

@@ -13,9 +13,6 @@ use Rattle.arena.specs.WellFormed.{is_term}
 use Rattle.arena.proofs.Steps.{did_then, did_stop}
 use Rattle.compiled.proofs.neg_unless.Goals as goal
 
-pub bvneg-requires : goal.bvneg-requires
-bvneg-requires c = record { arena = c.requires.arena; fit = c.requires.fit.1 }
-
 pub if_false-requires : goal.if_false-requires
 if_false-requires c =
     let s = c.requires in

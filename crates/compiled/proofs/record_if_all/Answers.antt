@@ -12,9 +12,6 @@ use Rattle.arena.proofs.Ext.{ext_trans}
 use Rattle.arena.proofs.Steps.{did_then, did_stop}
 use Rattle.compiled.proofs.record_if_all.Goals as goal
 
-pub record_of-requires : goal.record_of-requires
-record_of-requires c = record { ready = record { arena = c.requires.ready.arena; fit = (c.requires.ready.fit.1, c.requires.ready.fit.2) }; list_len_bound = c.requires.list_len_bound }
-
 pub if_all_given-requires : goal.if_all_given-requires
 if_all_given-requires c =
     let s = c.requires.ready in

@@ -8,14 +8,6 @@ use Rattle.factory_bitvectors.proofs.bvapp.Goals as goal
 pub type_of-ty-requires : goal.type_of-ty-requires
 type_of-ty-requires c = record { below = c.requires.ready.arena.below; bound = term_pos _ _ c.requires.ready.fit.0.isterm }
 
-pub both_bv-requires : goal.both_bv-requires
-both_bv-requires c =
-    record { arena = c.requires.ready.arena; fit = (c.requires.ready.fit.0.isterm, c.requires.ready.fit.1.1.isterm) }
-
-pub width_of-width-requires : goal.width_of-width-requires
-width_of-width-requires c =
-    record { arena = c.requires.ready.arena; fit = c.requires.ready.fit.0 }
-
 pub par_of-lhs-requires : goal.par_of-lhs-requires
 par_of-lhs-requires c =
     record { below = c.requires.ready.arena.below; bound = term_pos _ _ c.requires.ready.fit.0.isterm }

@@ -5,14 +5,6 @@ use Rattle.factory.proofs.Calls.{term_pos, ready_wf}
 use Rattle.factory.proofs.Operands.{two_bv}
 use Rattle.factory_bitvectors.proofs.bvso.Goals as goal
 
-pub both_bv-requires : goal.both_bv-requires
-both_bv-requires c =
-    record { arena = c.requires.ready.arena; fit = (c.requires.ready.fit.0.isterm, c.requires.ready.fit.1.1.isterm) }
-
-pub width_of-width-requires : goal.width_of-width-requires
-width_of-width-requires c =
-    record { arena = c.requires.ready.arena; fit = c.requires.ready.fit.0 }
-
 pub par_of-lhs-requires : goal.par_of-lhs-requires
 par_of-lhs-requires c =
     record { below = c.requires.ready.arena.below; bound = term_pos _ _ c.requires.ready.fit.0.isterm }

@@ -9,9 +9,6 @@ use Rattle.factory_bitvectors.proofs.extended.Goals as goal
 pub kind_of-requires : goal.kind_of-requires
 kind_of-requires c = record { below = c.requires.arena.below; bound = term_pos _ _ c.requires.fit.0.isterm }
 
-pub width_of-width-requires : goal.width_of-width-requires
-width_of-width-requires c = record { arena = c.requires.arena; fit = c.requires.fit.0 }
-
 pub par_of-v-requires : goal.par_of-v-requires
 par_of-v-requires c = record { below = c.requires.arena.below; bound = term_pos _ _ c.requires.fit.0.isterm }
 

@@ -1,6 +1,5 @@
 use Prim.Native.Nat.{◌+◌, ◌≤◌}
 use mathlib.Core.Path.{ap}
-use native.Mathlib.Omega.{arith}
 use Rattle.factory.specs.Bitvectors.{extended_to, zero_extend_t}
 use Rattle.factory.specs.Fit.{OfKind}
 use Rattle.factory.proofs.Calls.{ready_wf, ready_next}
@@ -9,12 +8,6 @@ use Rattle.nodes.specs.Replies.{type_reply}
 use Rattle.arena.specs.Nodes.{width_at}
 use Rattle.arena.proofs.Steps.{did_then, did_stop, picked}
 use Rattle.factory_bitvectors.proofs.zero_extend.Goals as goal
-
-pub width_of-width-requires : goal.width_of-width-requires
-width_of-width-requires c = record { arena = c.requires.arena; fit = c.requires.fit.0 }
-
-pub overflow_add-width : goal.overflow_add-width
-overflow_add-width c = let e = c.width_of-width.ensures in let h = c.requires.fit.1 in omega arith
 
 pub extended-requires : goal.extended-requires
 extended-requires c =

@@ -12,9 +12,6 @@ unfolding eq_simplify
 returns-then-t-u c =
     picked (did_here c.requires.arena 8) (rw (eq-eqb _ _ c.if-t-u.true))
 
-pub both_literal-requires : goal.both_literal-requires
-both_literal-requires c = record { arena = c.requires.arena; fit = (c.requires.fit.0.isterm, c.requires.fit.1.isterm) }
-
 pub returns-then-both_literal : goal.returns-then-both_literal
 unfolding eq_simplify
 returns-then-both_literal c =

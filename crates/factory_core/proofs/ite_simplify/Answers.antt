@@ -22,10 +22,6 @@ unfolding ite_simplify
 returns-then-all2 c =
     picked (did_here c.requires.arena c.args.g.0) (rw (sym c.any2.ensures ∙ c.if-any2.false, ne_eqb _ _ c.if-g.false, sym c.all2.ensures ∙ c.if-all2.true))
 
-pub not-requires : goal.not-requires
-not-requires c =
-    record { arena = c.requires.arena; fit = c.requires.fit.0 }
-
 pub returns-then-all2-2 : goal.returns-then-all2-2
 unfolding ite_simplify
 returns-then-all2-2 c =
@@ -52,10 +48,6 @@ returns-then-t c =
 pub type_of-ty-requires : goal.type_of-ty-requires
 type_of-ty-requires c =
     record { below = c.requires.arena.below; bound = term_pos _ _ c.requires.fit.1.0.isterm }
-
-pub term_node-requires : goal.term_node-requires
-term_node-requires c =
-    c.requires.arena
 
 pub returns : goal.returns
 unfolding ite_simplify

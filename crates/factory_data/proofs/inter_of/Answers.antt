@@ -1,15 +1,8 @@
-use native.Mathlib.Omega.{arith}
 use Rattle.factory.proofs.Calls.{ready_wf, term_pos}
 use Rattle.arena.proofs.Insertion.{holds-length}
 use Rattle.arena.proofs.Known.{set_node}
 use Rattle.arena.proofs.Steps.{picked}
 use Rattle.factory_data.proofs.inter_of.Goals as goal
-
-pub type_of-ty-requires : goal.type_of-ty-requires
-type_of-ty-requires c = record { below = c.requires.arena.below; bound = (let e = c.requires.fit.0 in omega arith) }
-
-pub members_of-left-requires : goal.members_of-left-requires
-members_of-left-requires c = record { below = c.requires.arena.below; bound = (let e = c.requires.fit.0 in omega arith) }
 
 pub members_of-right-requires : goal.members_of-right-requires
 members_of-right-requires c = record { below = c.requires.arena.below; bound = term_pos _ _ c.requires.fit.1 }

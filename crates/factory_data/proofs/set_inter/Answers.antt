@@ -10,15 +10,9 @@ pub returns-then-s-t : goal.returns-then-s-t
 unfolding set_inter
 returns-then-s-t c = picked (did_here c.requires.arena c.args.s.0) (rw (eq-eqb _ _ c.if-s-t.true))
 
-pub is_empty_set-requires : goal.is_empty_set-requires
-is_empty_set-requires c = record { arena = c.requires.arena; fit = c.requires.fit.0 }
-
 pub returns-then-is_empty_set : goal.returns-then-is_empty_set
 unfolding set_inter
 returns-then-is_empty_set c = picked (did_here c.requires.arena c.args.s.0) (rw (ne_eqb _ _ c.if-s-t.false, sym c.is_empty_set.ensures ∙ c.if-is_empty_set.true))
-
-pub is_empty_set-requires-2 : goal.is_empty_set-requires-2
-is_empty_set-requires-2 c = record { arena = c.requires.arena; fit = c.requires.fit.1 }
 
 pub returns-then-is_empty_set-2 : goal.returns-then-is_empty_set-2
 unfolding set_inter

@@ -11,9 +11,6 @@ use Rattle.arena.proofs.Ext.{ext_trans}
 use Rattle.arena.proofs.Steps.{did_then, did_stop}
 use Rattle.factory_data.proofs.set_intersects.Goals as goal
 
-pub set_inter-requires : goal.set_inter-requires
-set_inter-requires c = record { arena = c.requires.arena; fit = (c.requires.fit.0.isterm, c.requires.fit.1.1.isterm) }
-
 pub not_empty-requires : goal.not_empty-requires
 not_empty-requires c =
     let s = c.requires in

@@ -4,9 +4,6 @@ use Rattle.factory.proofs.Calls.{term_pos}
 use Rattle.arena.proofs.Steps.{did_here, picked}
 use Rattle.factory_data.proofs.set_member.Goals as goal
 
-pub is_empty_set-requires : goal.is_empty_set-requires
-is_empty_set-requires c = record { arena = c.requires.arena; fit = c.requires.fit.1 }
-
 pub returns-then-is_empty_set : goal.returns-then-is_empty_set
 unfolding set_member
 returns-then-is_empty_set c = picked (did_here c.requires.arena 4) (rw (sym c.is_empty_set.ensures ∙ c.if-is_empty_set.true))

@@ -9,9 +9,6 @@ pub returns-then-s-t : goal.returns-then-s-t
 unfolding set_subset
 returns-then-s-t c = picked (did_here c.requires.arena 8) (rw (eq-eqb _ _ c.if-s-t.true))
 
-pub is_empty_set-requires : goal.is_empty_set-requires
-is_empty_set-requires c = record { arena = c.requires.arena; fit = c.requires.fit.0 }
-
 pub returns-then-is_empty_set : goal.returns-then-is_empty_set
 unfolding set_subset
 returns-then-is_empty_set c = picked (did_here c.requires.arena 8) (rw (ne_eqb _ _ c.if-s-t.false, sym c.is_empty_set.ensures ∙ c.if-is_empty_set.true))

@@ -19,8 +19,5 @@ returns-in-Full c = left-full (left_one c.args.gs.now c.loop-i.i c.loop-i-test.t
 pub loop-i-preserved : goal.loop-i-preserved
 loop-i-preserved c = (omega arith, c.or_is_none.ensures.long ∙ c.loop-i.invariant.1, left-next (left_one c.args.gs.now c.loop-i.i c.loop-i-test.true c.loop-i.invariant.2) (ap term_reply c.in-At.is) c.or_is_none.ensures)
 
-pub shape_of-cells : goal.shape_of-cells
-shape_of-cells c = c.loop-i.invariant.1
-
 pub returns : goal.returns
 returns c = left_end (left_none c.args.gs.now c.loop-i.i c.loop-i-test.false c.loop-i.invariant.2)

@@ -12,9 +12,6 @@ use Rattle.factory.proofs.Calls.{ready_wf, ready_next}
 use Rattle.factory.proofs.Operands.{opt_type, opt_of, alike}
 use Rattle.factory_helpers.proofs.eq_none.Goals as goal
 
-pub elem_of-ty-requires : goal.elem_of-ty-requires
-elem_of-ty-requires c = record { arena = c.requires.arena; fit = c.requires.fit.isterm }
-
 pub none_of-requires : goal.none_of-requires
 none_of-requires c =
     record { arena = c.requires.arena; fit = rw c.elem_of-ty.ensures (opt_type (ready_wf c.requires) c.args.t.0 c.requires.fit) }

@@ -12,9 +12,6 @@ use Rattle.arena.proofs.Chain.{term_ext}
 use Rattle.arena.proofs.Steps.{did_then, did_stop}
 use Rattle.factory_helpers.proofs.if_all_some.Goals as goal
 
-pub any_none-requires : goal.any_none-requires
-any_none-requires c = record { arena = c.requires.arena; fit = c.requires.fit.0 }
-
 pub guarded-requires : goal.guarded-requires
 guarded-requires c =
     let s = c.requires in

@@ -15,9 +15,6 @@ use Rattle.factory.proofs.Choice.{ite_law}
 use Rattle.factory.proofs.Calls.{ready_wf, ready_next}
 use Rattle.factory_helpers.proofs.if_true.Goals as goal
 
-pub some_of-requires : goal.some_of-requires
-some_of-requires c = record { arena = c.requires.arena; fit = c.requires.fit.1 }
-
 pub or_none-requires : goal.or_none-requires
 or_none-requires c =
     let s = c.requires in

@@ -16,10 +16,6 @@ unfolding is_none_ite
 returns-then-all2 c =
     picked (did_here c.requires.arena 4) (rw (← c.kind_of-k.ensures, ← c.kind_of-l.ensures, sym c.all2.ensures ∙ c.if-all2.true))
 
-pub not-requires : goal.not-requires
-not-requires c =
-    record { arena = c.requires.arena; fit = c.requires.fit.1 }
-
 pub returns-then-all2-2 : goal.returns-then-all2-2
 unfolding is_none_ite
 returns-then-all2-2 c =
@@ -29,10 +25,6 @@ pub returns-then-all2-3 : goal.returns-then-all2-3
 unfolding is_none_ite
 returns-then-all2-3 c =
     picked (did_here c.requires.arena c.args.g.0) (rw (← c.kind_of-k.ensures, ← c.kind_of-l.ensures, sym c.all2.ensures ∙ c.if-all2.false, sym c.all2-2.ensures ∙ c.if-all2-2.false, sym c.all2-3.ensures ∙ c.if-all2-3.true))
-
-pub eq_none-requires : goal.eq_none-requires
-eq_none-requires c =
-    record { arena = c.requires.arena; fit = c.requires.fit.0 }
 
 pub returns : goal.returns
 unfolding is_none_ite

@@ -13,9 +13,6 @@ use Rattle.arena.specs.Values.{tbool}
 use Rattle.arena.proofs.Steps.{did_then, did_stop, picked}
 use Rattle.factory_helpers.proofs.none_or.Goals as goal
 
-pub elem_of-ty-requires : goal.elem_of-ty-requires
-elem_of-ty-requires c = record { arena = c.requires.arena; fit = c.requires.fit.1.isterm }
-
 pub none_of-requires : goal.none_of-requires
 none_of-requires c = record { arena = c.requires.arena; fit = rw c.elem_of-ty.ensures (opt_type (ready_wf c.requires) c.args.t.0 c.requires.fit.1) }
 

@@ -12,9 +12,6 @@ use Rattle.arena.specs.Values.{tbool}
 use Rattle.arena.proofs.Steps.{did_then, did_stop}
 use Rattle.factory_helpers.proofs.or_is_none.Goals as goal
 
-pub is_none-requires : goal.is_none-requires
-is_none-requires c = record { arena = c.requires.arena; fit = c.requires.fit.0 }
-
 pub or-requires : goal.or-requires
 or-requires c =
     let s = c.requires in

@@ -12,9 +12,6 @@ use Rattle.factory.proofs.Calls.{ready_wf, ready_next}
 use Rattle.factory.proofs.Operands.{alike}
 use Rattle.factory_helpers.proofs.or_some.Goals as goal
 
-pub some_of-requires : goal.some_of-requires
-some_of-requires c = record { arena = c.requires.arena; fit = c.requires.fit.1 }
-
 pub ite-requires : goal.ite-requires
 ite-requires c =
     let s = c.requires in

@@ -1,12 +1,6 @@
 use mathlib.Core.Path.{sym, ◌∙◌}
 use Rattle.factory_makers.proofs.both_literal.Goals as goal
 
-pub is_literal-requires : goal.is_literal-requires
-is_literal-requires c = record { below = c.requires.arena.below; at_value = c.requires.fit.0 }
-
-pub is_literal-requires-then-is_literal : goal.is_literal-requires-then-is_literal
-is_literal-requires-then-is_literal c = record { below = c.requires.arena.below; at_value = c.requires.fit.1 }
-
 pub returns-then-is_literal : goal.returns-then-is_literal
 returns-then-is_literal c = rw (sym c.is_literal.ensures ∙ c.if-is_literal.true) c.is_literal-then-is_literal.ensures
 

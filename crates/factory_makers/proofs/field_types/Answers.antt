@@ -1,14 +1,11 @@
 use Prim.Native.Nat.{◌+◌, ◌<◌}
 use lib.ListN.{length, get_or, take, set, length-set}
-use mathlib.Core.Path.{◌≡◌, refl, ◌∙◌}
+use mathlib.Core.Path.{◌≡◌, ◌∙◌}
 use native.Mathlib.Omega.{arith}
 use Rattle.factory.proofs.Calls.{term_pos}
 use Rattle.factory.proofs.Picks.{pair_back, types_next, types_last, odd_term, types_held}
 use Rattle.arena.specs.Cells.{used}
 use Rattle.factory_makers.proofs.field_types.Goals as goal
-
-pub loop-i-init : goal.loop-i-init
-loop-i-init c = (omega arith, refl, refl, c.requires.run_value, refl, refl)
 
 pub type_of-requires : goal.type_of-requires
 type_of-requires c = record { below = c.requires.below; bound = term_pos _ _ (odd_term _ c.args.run.now c.loop-i.i c.loop-i-test.true c.loop-i.invariant.3).0 }
@@ -27,9 +24,6 @@ loop-i-preserved c =
       l.invariant.4 ∙ types_next (used c.args.cells.now c.args.mark) c.args.run.now l.types l.i _ c.loop-i-test.true k c.type_of.ensures,
       pair_back l.types l.i (get_or c.args.run.now l.i 0) c.type_of.result.0 (length c.args.run.now) (omega arith) ∙ l.invariant.5,
     )
-
-pub shape_of-types : goal.shape_of-types
-shape_of-types c = c.loop-i.invariant.2
 
 pub returns : goal.returns
 returns c =

@@ -10,9 +10,6 @@ use Rattle.node_kinds.proofs.set_type_ok.Goals as goal
 pub returns-then-run-ne1 : goal.returns-then-run-ne1
 returns-then-run-ne1 c = every_off _ _ (ne_eqb _ _ c.if-run-ne1.true)
 
-pub set_free-requires : goal.set_free-requires
-set_free-requires c = record { below = c.requires.below; at_value = c.requires.elem_type c.if-run-ne1.false }
-
 pub returns : goal.returns
 returns c =
     let s = c.args in

@@ -18,9 +18,6 @@ pub returns-then-k-eq3 : goal.returns-then-k-eq3
 unfolding type_test
 returns-then-k-eq3 c = rw c.if-k-eq3.true c.all2-then-k-eq3.ensures
 
-pub set_type_ok-requires : goal.set_type_ok-requires
-set_type_ok-requires c = record { below = c.requires.below; elem_type = c.requires.elem_type c.if-k-eq4.true }
-
 pub returns-then-k-eq4 : goal.returns-then-k-eq4
 unfolding type_test
 returns-then-k-eq4 c = rw c.if-k-eq4.true c.set_type_ok.ensures

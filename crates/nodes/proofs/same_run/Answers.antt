@@ -1,12 +1,9 @@
-use mathlib.Core.Path.{refl, sym, ◌∙◌}
+use mathlib.Core.Path.{sym, ◌∙◌}
 use native.Mathlib.Omega.{arith}
 use lib.ListN.{length, take, drop}
 use Rattle.arena.proofs.Loops.{list_hit, list_miss, list_end}
 use Rattle.arena.proofs.Stretch.{stretch_length, stretch_at}
 use Rattle.nodes.proofs.same_run.Goals as goal
-
-pub loop-i-init : goal.loop-i-init
-loop-i-init c = (omega arith, refl)
 
 pub returns-then-cells-from : goal.returns-then-cells-from
 returns-then-cells-from c =

@@ -1,6 +1,5 @@
 use mathlib.Core.Path.{refl, sym, ◌∙◌}
 use native.Mathlib.Omega.{arith}
-use borrow.Author.Tests.{not-false}
 use Rattle.arena.specs.Cells.{used}
 use Rattle.arena.proofs.Starts.{first_kind}
 use Rattle.table.specs.Call.{sort_ok}
@@ -12,38 +11,17 @@ use Rattle.refusals.proofs.all_sorted.Goals as goal
 pub loop-i-init : goal.loop-i-init
 loop-i-init c = (refl, omega arith, first_kind c.requires.below)
 
-pub offset_bounds-xs-i : goal.offset_bounds-xs-i
-offset_bounds-xs-i c = omega arith
-
-pub bounds-xs-i : goal.bounds-xs-i
-bounds-xs-i c = omega arith
-
-pub kind_from-kind-requires : goal.kind_from-kind-requires
-kind_from-kind-requires c = record { below = c.requires.below; bound = c.loop-i.invariant.2 }
-
 pub returns-then-not-fits_sort : goal.returns-then-not-fits_sort
 returns-then-not-fits_sort c =
     let x = c.args in let l = c.loop-i in
     let e = sorted_as (used x.cells.now x.mark) x.typed _ _ _ c.kind_from-kind.ensures c.fits_sort.ensures in
     sym (l.invariant.0 ∙ all_miss _ l.i (sort_ok (used x.cells.now x.mark) (sort x.typed)) x.step c.requires.le_step.0 c.requires.le_step.1 (omega arith) (e ∙ c.if-not-fits_sort.true))
 
-pub offset_bounds-xs-i-in-loop-i : goal.offset_bounds-xs-i-in-loop-i
-offset_bounds-xs-i-in-loop-i c = omega arith
-
-pub bounds-xs-i-in-loop-i : goal.bounds-xs-i-in-loop-i
-bounds-xs-i-in-loop-i c = omega arith
-
-pub overflow_add-i : goal.overflow_add-i
-overflow_add-i c = omega arith
-
-pub loop-i-smaller : goal.loop-i-smaller
-loop-i-smaller c = omega arith
-
 pub loop-i-preserved : goal.loop-i-preserved
 loop-i-preserved c =
     let x = c.args in let l = c.loop-i in
     let k = c.kind_from-kind in let t = c.fits_sort in
-    let yes = not-false t.result c.if-not-fits_sort.false-raw in
+    let yes = c.if-not-fits_sort.false in
     let e = sorted_as (used x.cells.now x.mark) x.typed _ _ _ k.ensures t.ensures in (
       l.invariant.0 ∙ all_hit _ l.i (sort_ok (used x.cells.now x.mark) (sort x.typed)) x.step c.requires.le_step.0 c.requires.le_step.1 (omega arith) (e ∙ yes),
       omega arith,

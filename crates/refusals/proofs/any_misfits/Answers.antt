@@ -1,19 +1,10 @@
-use mathlib.Core.Path.{refl, sym, ◌∙◌}
+use mathlib.Core.Path.{sym, ◌∙◌}
 use native.Mathlib.Omega.{arith}
 use Rattle.arena.specs.Cells.{used}
 use Rattle.arena.specs.WellFormed.{is_term}
 use Rattle.table.specs.Forms.{misfit}
 use Rattle.table.proofs.Suits.{any_hit, any_miss, any_end, all_here, all-next}
 use Rattle.refusals.proofs.any_misfits.Goals as goal
-
-pub loop-i-init : goal.loop-i-init
-loop-i-init c = (refl, c.requires.xs_value, omega arith)
-
-pub offset_bounds-xs-i : goal.offset_bounds-xs-i
-offset_bounds-xs-i c = omega arith
-
-pub bounds-xs-i : goal.bounds-xs-i
-bounds-xs-i c = omega arith
 
 pub misfits-requires : goal.misfits-requires
 misfits-requires c =
@@ -22,12 +13,6 @@ misfits-requires c =
 pub returns-then-misfits : goal.returns-then-misfits
 returns-then-misfits c =
     sym (c.loop-i.invariant.0 ∙ any_hit _ c.loop-i.i (misfit (used c.args.cells.now c.args.mark) c.args.named) c.args.step c.requires.le_step.0 c.requires.le_step.1 (omega arith) (sym c.misfits.ensures ∙ c.if-misfits.true))
-
-pub overflow_add-i : goal.overflow_add-i
-overflow_add-i c = omega arith
-
-pub loop-i-smaller : goal.loop-i-smaller
-loop-i-smaller c = omega arith
 
 pub loop-i-preserved : goal.loop-i-preserved
 loop-i-preserved c = (

@@ -5,9 +5,5 @@ pub type_of-ty-requires : goal.type_of-ty-requires
 type_of-ty-requires c =
     record { below = c.requires.below; bound = term_pos _ _ c.requires.x_value }
 
-pub misfits-requires : goal.misfits-requires
-misfits-requires c =
-    record { below = c.requires.below; x_value = c.requires.y_value }
-
 pub returns : goal.returns
 returns c = cc

@@ -14,9 +14,5 @@ pub kind_of-requires : goal.kind_of-requires
 kind_of-requires c =
     record { below = c.requires.below; bound = rw c.type_of-set.ensures (type_pos c.requires.below _ c.requires.y_value) }
 
-pub misfits-requires : goal.misfits-requires
-misfits-requires c =
-    record { below = c.requires.below; x_value = c.requires.x_value }
-
 pub returns : goal.returns
 returns c = cc

@@ -1,10 +1,6 @@
 use Rattle.table.proofs.Numbers.{known-top, from_core, from_bitvectors, from_helpers, from_compiled}
 use Rattle.refusals.proofs.wrong_type.Goals as goal
 
-pub wrong_in_makers-requires : goal.wrong_in_makers-requires
-wrong_in_makers-requires c =
-    record { below = c.requires.below; suited = c.requires.suited; op_bound = c.if-op-le16.true }
-
 pub wrong_in_core-requires : goal.wrong_in_core-requires
 wrong_in_core-requires c =
     record { below = c.requires.below; suited = c.requires.suited; le_op = (from_core _ c.requires.op_value c.if-op-le16.false, c.if-op-le26.true) }
@@ -12,10 +8,6 @@ wrong_in_core-requires c =
 pub wrong_in_bitvectors-requires : goal.wrong_in_bitvectors-requires
 wrong_in_bitvectors-requires c =
     record { below = c.requires.below; suited = c.requires.suited; le_op = (from_bitvectors _ c.requires.op_value c.if-op-le26.false, c.if-op-le49.true) }
-
-pub wrong_in_data-requires : goal.wrong_in_data-requires
-wrong_in_data-requires c =
-    record { below = c.requires.below; suited = c.requires.suited; le_op = (c.if-op-le49.false, c.if-op-le56.true) }
 
 pub wrong_in_helpers-requires : goal.wrong_in_helpers-requires
 wrong_in_helpers-requires c =

@@ -1,29 +1,14 @@
-use mathlib.Core.Path.{refl, sym, ◌∙◌}
+use mathlib.Core.Path.{sym, ◌∙◌}
 use native.Mathlib.Omega.{arith}
 use borrow.Author.Tests.{lt-ltb, le-ltb}
 use Rattle.arena.specs.WellFormed.{small}
 use Rattle.arena.proofs.Loops.{even_hit, even_miss, even_end}
 use Rattle.runs.proofs.keys_small.Goals as goal
 
-pub loop-i-init : goal.loop-i-init
-loop-i-init c = (refl, omega arith)
-
-pub offset_bounds-run-i : goal.offset_bounds-run-i
-offset_bounds-run-i c = omega arith
-
-pub bounds-run-i : goal.bounds-run-i
-bounds-run-i c = omega arith
-
 pub returns-then-run-i-ge4294967296 : goal.returns-then-run-i-ge4294967296
 returns-then-run-i-ge4294967296 c =
     let l = c.loop-i in
     sym (l.invariant.0 ∙ even_miss small _ l.i (omega arith) (le-ltb _ _ c.if-run-i-ge4294967296.true))
-
-pub overflow_add-i : goal.overflow_add-i
-overflow_add-i c = omega arith
-
-pub loop-i-smaller : goal.loop-i-smaller
-loop-i-smaller c = omega arith
 
 pub loop-i-preserved : goal.loop-i-preserved
 loop-i-preserved c =

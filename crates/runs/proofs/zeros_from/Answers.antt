@@ -1,29 +1,14 @@
-use mathlib.Core.Path.{refl, sym, ◌∙◌}
+use mathlib.Core.Path.{sym, ◌∙◌}
 use native.Mathlib.Omega.{arith}
 use lib.Dec.{eqb}
 use borrow.Author.Tests.{eq-eqb, ne_eqb}
 use Rattle.arena.proofs.Loops.{all_hit, all_miss, all_end}
 use Rattle.runs.proofs.zeros_from.Goals as goal
 
-pub loop-i-init : goal.loop-i-init
-loop-i-init c = (refl, c.requires)
-
-pub offset_bounds-run-i : goal.offset_bounds-run-i
-offset_bounds-run-i c = omega arith
-
-pub bounds-run-i : goal.bounds-run-i
-bounds-run-i c = omega arith
-
 pub returns-then-run-i-ne0 : goal.returns-then-run-i-ne0
 returns-then-run-i-ne0 c =
     let l = c.loop-i in
     sym (l.invariant.0 ∙ all_miss (λ x. eqb x 0) _ l.i (omega arith) (ne_eqb _ _ c.if-run-i-ne0.true))
-
-pub overflow_add-i : goal.overflow_add-i
-overflow_add-i c = omega arith
-
-pub loop-i-smaller : goal.loop-i-smaller
-loop-i-smaller c = omega arith
 
 pub loop-i-preserved : goal.loop-i-preserved
 loop-i-preserved c =

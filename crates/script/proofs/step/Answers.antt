@@ -7,8 +7,5 @@ use Rattle.script.proofs.step.Goals as goal
 pub returns-then-not-read : goal.returns-then-not-read
 returns-then-not-read c = stepped_bad (handed_bad _ _ _ c.read_instruction-read.ensures (not-true _ c.if-not-read.true)) refl refl refl c.write_refused.ensures
 
-pub call_known-answer-requires : goal.call_known-answer-requires
-call_known-answer-requires c = c.requires.0
-
 pub returns : goal.returns
 returns c = stepped_whole c.call_known-answer.result (handed_whole _ _ _ c.read_instruction-read.ensures (not-false _ c.if-not-read.false)) c.call_known-answer.ensures c.next_mark.ensures refl c.write_answer.ensures

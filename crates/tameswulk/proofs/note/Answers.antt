@@ -1,4 +1,3 @@
-use mathlib.Core.Path.{refl}
 use native.Mathlib.Nat.{pos_of_ne-zero}
 use Rattle.tameswulk.proofs.Giving.{noted_none, noted_one, above-one}
 use Rattle.tameswulk.proofs.note.Goals as goal
@@ -14,6 +13,3 @@ returns-then-told-eq1 c = noted_one c.args.told.now c.args.position c.args.mark 
 
 pub bounds-told-1 : goal.bounds-told-1
 bounds-told-1 c = above-one c.args.told.now c.args.position c.if-told-eq0.false c.if-told-eq1.false
-
-pub returns : goal.returns
-returns c = refl

@@ -8,8 +8,5 @@ returns-then-cells-ne8192 c = other-cells c.if-cells-ne8192.true
 pub returns-then-out-lt-ROOM : goal.returns-then-out-lt-ROOM
 returns-then-out-lt-ROOM c = no_room c.if-out-lt-ROOM.true
 
-pub run-requires : goal.run-requires
-run-requires c = let l = c.if-out-lt-ROOM.false in (c.if-cells-ne8192.false, omega arith)
-
 pub returns : goal.returns
 returns c = let l = c.if-out-lt-ROOM.false in scripted (c.if-cells-ne8192.false, omega arith) c.run.ensures

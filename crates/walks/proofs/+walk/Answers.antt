@@ -22,18 +22,10 @@ bounds-flags-slot t c = let s = c.requires in slot_fits s.stands s.known
 pub returns-then-flags-slot-eq1 : goal.returns-then-flags-slot-eq1
 returns-then-flags-slot-eq1 t c = let s = c.requires in walk_flag s.stands s.known c.if-flags-slot-eq1.true
 
-pub arg_count-n-requires : goal.arg_count-n-requires
-arg_count-n-requires t c = c.requires.stands
-
 pub loop-i-init : goal.loop-i-init
 loop-i-init t c =
     let s = c.requires in
     (omega arith, walk_args s.stands c.if-kind-eq4.false c.if-kind-gt21.false, s.known, refl)
-
-pub arg_at-x-requires : goal.arg_at-x-requires
-arg_at-x-requires t c =
-    let e = c.arg_count-n.ensures in
-    record { stands = c.requires.stands; i_in_bounds = omega arith }
 
 pub walk-requires : goal.walk-requires
 walk-requires t c =

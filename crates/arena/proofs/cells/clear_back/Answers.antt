@@ -11,26 +11,11 @@ loop-i-init c =
     let z : 0 ≡ c.args.mark - c.args.mark = omega arith in
     (omega arith, refl, omega arith, sym (append-nil _) ∙ ap (λ (n : ℕ). take c.args.mark c.args.cells.now ++ replicate n 0) z)
 
-pub offset_bounds-cells-i : goal.offset_bounds-cells-i
-offset_bounds-cells-i c = omega arith
-
-pub bounds-cells-i : goal.bounds-cells-i
-bounds-cells-i c = omega arith
-
-pub overflow_add-i : goal.overflow_add-i
-overflow_add-i c = omega arith
-
-pub loop-i-smaller : goal.loop-i-smaller
-loop-i-smaller c = omega arith
-
 pub loop-i-preserved : goal.loop-i-preserved
 loop-i-preserved c =
     let l = c.loop-i in
     let a = c.args in
     (omega arith, simp length-set l.invariant.1, omega arith, clear_more l.cells (take a.mark a.cells.now) a.mark l.i l.invariant.0 (omega arith) l.invariant.3)
-
-pub shape_of-cells : goal.shape_of-cells
-shape_of-cells c = c.loop-i.invariant.1
 
 pub returns : goal.returns
 returns c = clear-all _ c.loop-i.cells _ c.loop-i.i c.loop-i.invariant.1 (omega arith) c.loop-i.invariant.0 c.loop-i.invariant.2 c.loop-i.invariant.3

@@ -3,6 +3,3 @@ use Rattle.arena.proofs.cells.kind_at.Goals as goal
 
 pub kind_from-requires : goal.kind_from-requires
 kind_from-requires c = record { below = c.requires; bound = first_kind c.requires }
-
-pub returns : goal.returns
-returns c = c.kind_from.ensures

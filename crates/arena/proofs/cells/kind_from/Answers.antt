@@ -22,66 +22,19 @@ returns-then-p-at c =
     let l = c.loop-at in
     past_over c.requires.below _ l.at l.invariant.1 c.if-p-at.true
 
-pub offset_bounds-cells-at : goal.offset_bounds-cells-at
-offset_bounds-cells-at c =
-    let l = c.loop-at in
-    let f = past_fits c.requires.below _ l.at l.invariant.1 c.loop-at-test.true in
-    let g = c.requires.below.fits in
-    omega arith
-
-pub bounds-cells-at : goal.bounds-cells-at
-bounds-cells-at c =
-    let l = c.loop-at in
-    let f = past_fits c.requires.below _ l.at l.invariant.1 c.loop-at-test.true in
-    let g = c.requires.below.fits in
-    omega arith
-
 pub returns-then-p-at-2 : goal.returns-then-p-at-2
 returns-then-p-at-2 c =
     let l = c.loop-at in
     past_here c.requires.below _ l.at l.invariant.1 c.loop-at-test.true c.if-p-at-2.true
 
-pub overflow_add-at : goal.overflow_add-at
-overflow_add-at c =
-    let l = c.loop-at in
-    let f = past_fits c.requires.below _ l.at l.invariant.1 c.loop-at-test.true in
-    let g = c.requires.below.fits in
-    omega arith
-
-pub offset_bounds-cells-at-in-loop-at : goal.offset_bounds-cells-at-in-loop-at
-offset_bounds-cells-at-in-loop-at c =
-    let l = c.loop-at in
-    let f = past_fits c.requires.below _ l.at l.invariant.1 c.loop-at-test.true in
-    let g = c.requires.below.fits in
-    omega arith
-
 pub bounds-cells-at-in-loop-at : goal.bounds-cells-at-in-loop-at
-bounds-cells-at-in-loop-at c =
-    let l = c.loop-at in
-    let f = past_fits c.requires.below _ l.at l.invariant.1 c.loop-at-test.true in
-    let g = c.requires.below.fits in
-    omega arith
+bounds-cells-at-in-loop-at c = omega (arith, past_fits c.requires.below _ c.loop-at.at c.loop-at.invariant.1 c.loop-at-test.true, c.requires.below.fits)
 
 pub overflow_add-at-in-loop-at : goal.overflow_add-at-in-loop-at
-overflow_add-at-in-loop-at c =
-    let l = c.loop-at in
-    let f = past_fits c.requires.below _ l.at l.invariant.1 c.loop-at-test.true in
-    let g = c.requires.below.fits in
-    omega arith
+overflow_add-at-in-loop-at c = omega (arith, past_fits c.requires.below _ c.loop-at.at c.loop-at.invariant.1 c.loop-at-test.true, c.requires.below.fits)
 
 pub overflow_add-at-in-loop-at-2 : goal.overflow_add-at-in-loop-at-2
-overflow_add-at-in-loop-at-2 c =
-    let l = c.loop-at in
-    let f = past_fits c.requires.below _ l.at l.invariant.1 c.loop-at-test.true in
-    let g = c.requires.below.fits in
-    omega arith
-
-pub loop-at-smaller : goal.loop-at-smaller
-loop-at-smaller c =
-    let l = c.loop-at in
-    let f = past_fits c.requires.below _ l.at l.invariant.1 c.loop-at-test.true in
-    let g = c.requires.below.fits in
-    omega arith
+overflow_add-at-in-loop-at-2 c = omega (arith, past_fits c.requires.below _ c.loop-at.at c.loop-at.invariant.1 c.loop-at-test.true, c.requires.below.fits)
 
 pub loop-at-preserved : goal.loop-at-preserved
 loop-at-preserved c =

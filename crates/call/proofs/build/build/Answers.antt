@@ -14,9 +14,6 @@ returns-in-At c = seen (ap type_reply c.in-At.is) c.build_type.ensures
 pub returns-in-Full : goal.returns-in-Full
 returns-in-Full c = seen (ap type_reply c.in-Full.is) c.build_type.ensures
 
-pub build_term-requires : goal.build_term-requires
-build_term-requires c = record { ready = c.requires; le_op = c.if-op-lt10.false }
-
 pub returns-in-At-build_term : goal.returns-in-At-build_term
 returns-in-At-build_term c = seen (ap term_reply c.in-At-build_term.is) c.build_term.ensures
 

@@ -8,9 +8,6 @@ use Rattle.factory_data.proofs.runs.common.Goals as goal
 pub loop-i-init : goal.loop-i-init
 loop-i-init c = (omega arith, omega arith, refl, holds_none c.args.run.now, refl)
 
-pub put_if-n-requires : goal.put_if-n-requires
-put_if-n-requires c = let p = c.requires in let l = c.loop-i.invariant in let t = c.loop-i-test.true in omega arith
-
 pub loop-i-preserved : goal.loop-i-preserved
 loop-i-preserved c =
     let l = c.loop-i in
@@ -21,9 +18,6 @@ loop-i-preserved c =
       holds_as (sym p.ensures.holds.front) (holds_then l.invariant.3 p.ensures.holds p.ensures.lower_bound.0),
       l.invariant.4 ∙ common-next c.args.left.now c.args.right.now (take l.n l.run) _ l.i c.contains.result c.loop-i-test.true c.contains.ensures p.ensures.holds.front,
     )
-
-pub shape_of-run : goal.shape_of-run
-shape_of-run c = c.loop-i.invariant.2
 
 pub returns : goal.returns
 returns c = holds_as (sym (c.loop-i.invariant.4 ∙ common_end c.args.left.now c.args.right.now _ c.loop-i.i c.loop-i-test.false)) c.loop-i.invariant.3

@@ -1,12 +1,9 @@
 use borrow.Author.Tests.{eq-eqb, ne_eqb}
 use lib.Dec.{eqb}
-use mathlib.Core.Path.{refl, sym, ◌∙◌}
+use mathlib.Core.Path.{sym, ◌∙◌}
 use native.Mathlib.Omega.{arith}
 use Rattle.arena.proofs.Loops.{any_hit, any_miss, any_end}
 use Rattle.factory_data.proofs.runs.contains.Goals as goal
-
-pub loop-i-init : goal.loop-i-init
-loop-i-init c = (omega arith, refl)
 
 pub returns-then-x-list : goal.returns-then-x-list
 returns-then-x-list c = sym (c.loop-i.invariant.1 ∙ any_hit (λ y. eqb c.args.x y) c.args.list.now c.loop-i.i c.loop-i-test.true (eq-eqb _ _ c.if-x-list.true))

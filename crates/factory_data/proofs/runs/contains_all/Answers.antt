@@ -1,11 +1,8 @@
-use mathlib.Core.Path.{refl, sym, ◌∙◌}
+use mathlib.Core.Path.{sym, ◌∙◌}
 use native.Mathlib.Omega.{arith}
 use Rattle.arena.specs.Lists.{mem?}
 use Rattle.arena.proofs.Loops.{all_hit, all_miss, all_end}
 use Rattle.factory_data.proofs.runs.contains_all.Goals as goal
-
-pub loop-i-init : goal.loop-i-init
-loop-i-init c = (omega arith, refl)
 
 pub returns-then-not-contains : goal.returns-then-not-contains
 returns-then-not-contains c = sym (c.loop-i.invariant.1 ∙ all_miss (λ x. mem? x c.args.list.now) c.args.these.now c.loop-i.i c.loop-i-test.true (sym c.contains.ensures ∙ c.if-not-contains.true))

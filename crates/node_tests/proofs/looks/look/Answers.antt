@@ -10,7 +10,7 @@ pub bounds-starts-i : goal.bounds-starts-i
 bounds-starts-i c = own_slot c.requires.ready c.args.p c.if-p-q.false
 
 pub overflow_cast-starts : goal.overflow_cast-starts
-overflow_cast-starts c = omega (arith, c.shared_slice_known-1.given (c.args.p / 4))
+overflow_cast-starts c = omega (arith, c.type_inv.starts (c.args.p / 4))
 
 pub returns-then-starts-i : goal.returns-then-starts-i
 returns-then-starts-i c = none_there c.requires.ready c.args.p c.if-starts-i.true c.args.j

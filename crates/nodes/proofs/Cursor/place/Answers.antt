@@ -8,9 +8,6 @@ use Rattle.arena.proofs.Steps.{did_found, did_full, did_added}
 use Rattle.nodes.proofs.Cursor.place.Goals as goal
 use Rattle.nodes.proofs.Cursor.place.Goals.{then-at-mark, else-at-mark}
 
-pub shape_of-cells-then-cells-mark : goal.shape_of-cells-then-cells-mark
-shape_of-cells-then-cells-mark c = search rules
-
 -- a found node needs no room
 pub returns-then-cells-mark : goal.returns-then-cells-mark
 returns-then-cells-mark c =
