@@ -3,8 +3,9 @@
 #![tactic(auto)]
 
 ghost use Rattle.std.specs.Prelude.{◌≡◌, [], ◌∷◌, ◌≤◌, length, get_or, drop, eqb};
-ghost use Rattle.arena.specs.Lists.{every, all, rising, evens, same_list, holds_field};
+ghost use Rattle.arena.specs.Lists.{every, all, rising, evens, same_list, field, holds_field};
 ghost use Rattle.arena.specs.WellFormed.{small, field_run};
+ghost use Rattle.runs.specs.Fields.{given};
 ghost use Rattle.runs.specs.Strides.{heads};
 
 pub fn all2(a: bool, b: bool) -> bool
@@ -109,16 +110,22 @@ pub fn same_run(a: &[u64], b: &[u64]) -> bool
     true
 }
 
+// What the attribute k holds.
+pub fn field(run: &[u64], k: u64) -> Option<u64>
+    ensures { result ≡ given (field run.now k) }
+{
+    for pair in run.chunks_exact(2) {
+        if pair[0] == k {
+            return Some(pair[1]);
+        }
+    }
+    None
+}
+
 // Whether the attribute k holds t.
+#[tactic(auto, using(crate::proofs::Given::given_holds))]
 pub fn holds_field(run: &[u64], k: u64, t: u64) -> bool
     ensures { result ≡ holds_field run.now k t }
 {
-    let mut i: usize = 0;
-    while i + 1 < run.len() {
-        if run[i] == k {
-            return run[i + 1] == t;
-        }
-        i += 2;
-    }
-    false
+    field(run, k) == Some(t)
 }
