@@ -2,3 +2,5 @@
 pub mod Turns
 pub mod Pairs
 pub mod Given
+pub mod Gives
+pub mod Same
