@@ -1,16 +1,17 @@
 -- What a chain of iterators over a run of numbers gives, place by place, and what its last call then says of the run.
-use Rattle.std.proofs.Common.{◌≡◌, ℕ, zero, suc, ◌+◌, ◌*◌, ◌<◌, ◌≤◌, Bool, true, false, ◌&&◌, List, [], ◌∷◌, length, get_or, ltb, slice_index_or, Option, Some, None, refl, sym, ap, ◌∙◌, arith}
+use Rattle.std.proofs.Common.{◌≡◌, ℕ, zero, suc, ◌+◌, ◌*◌, ◌<◌, ◌≤◌, Bool, true, false, ◌&&◌, List, [], ◌∷◌, length, get_or, drop, ltb, length-drop, ◌-◌, slice_index_or, Option, Some, None, refl, sym, ap, ◌∙◌, arith}
+use lib.Seq.{get_or-drop}
 use Rattle.std.specs.Prelude.{IsSomeAnd, IfSome}
 use Rattle.std.specs.Bool.{MatchBool, OnTrue}
 use Rattle.std.specs.Option.{option_map}
-use Rattle.std.specs.Iterator.Runs.{Run, ItemsMapTo, IsStepByRun, AllItemsGive, AnyItemGives}
+use Rattle.std.specs.Iterator.Runs.{Run, ItemsMapTo, IsSkipRun, IsStepByRun, AllItemsGive, AnyItemGives}
 use Rattle.std.specs.Iterator.Order.{IsSortedAnswer}
 use Rattle.std.proofs.lemmas.Option.{same_Some}
 use Rattle.std.proofs.Math.Nat.{lt_of_mul-lt-mul_right, mul-le-mul_right, add-mul, one-mul}
 use denote.Param.Members.{Mut, Called}
 use denote.Ref.{Bor}
-use Rattle.arena.specs.Lists.{all, evens, rising}
-use Rattle.runs.specs.Strides.{heads}
+use Rattle.arena.specs.Lists.{all, evens, odds, rising}
+use Rattle.runs.specs.Strides.{heads, held}
 
 -- a run of calls gives the n numbers num 0, num 1, .., or the first of them
 pub record Numbers {S A : Type 0} {steps : S → Option A → S → Type 0} (p : Run steps) (v : A → ℕ) (n : ℕ) (num : ℕ → ℕ) : Type 0 where
@@ -73,6 +74,31 @@ gives_heads p q v xs (suc (suc zero)) a b i g =
     let l = evens_long xs in
     gives_list p v (evens xs) refl (evens_at xs) (gives_step p q v (length (evens xs)) 2 a (omega (arith, l.0)) (omega (arith, l.1)) i g.numbers)
 gives_heads p q v xs (suc (suc (suc s))) a b i g = absurd (omega arith)
+
+-- all but the first n
+pub gives_skip : {S T A : Type 0} {steps : S → Option A → S → Type 0} {source : T → Option A → T → Type 0} (p : Run steps) (q : Run source) (v : A → ℕ) (xs : List ℕ) (n : ℕ) → IsSkipRun p q n → Gives q v xs → Gives p v (drop n xs)
+gives_skip p q v xs n i g =
+    let l = length-drop n xs in
+    gives_list p v (drop n xs) refl (λ k. sym (get_or-drop n xs k 0))
+    (record {
+      some = omega (arith, i.1, g.numbers.some);
+      whole = λ w. omega (arith, i.1, g.numbers.whole (i.0 ∙ w));
+      item = λ k h. ap (option_map v) (i.3 k) ∙ g.numbers.item (n + k) (omega (arith, i.1))
+    })
+
+-- what the fields hold: every second from the second on
+pub odds_evens : (xs : List ℕ) → evens (drop 1 xs) ≡ odds xs
+unfolding evens odds
+odds_evens [] = refl
+odds_evens (x ∷ []) = refl
+odds_evens (x ∷ y ∷ []) = refl
+odds_evens (x ∷ y ∷ z ∷ r) = ap (λ (l : List ℕ). y ∷ l) (odds_evens (z ∷ r))
+
+pub heads_held : (s : ℕ) (xs : List ℕ) → 1 ≤ s → s ≤ 2 → heads s (drop (s - 1) xs) ≡ held s xs
+heads_held zero xs a b = absurd (omega arith)
+heads_held (suc zero) xs a b = refl
+heads_held (suc (suc zero)) xs a b = odds_evens xs
+heads_held (suc (suc (suc s))) xs a b = absurd (omega arith)
 
 -- ---- all
 
