@@ -7,6 +7,7 @@ use mathlib.Core.Option.{none, some}
 use mathlib.Core.List.{List, [], ◌∷◌}
 use lib.ListN.{length, drop, get_or, length-drop, drop_of_length-le}
 use lib.Seq.{drop-cons}
+use lib.Pointwise.{pointwise}
 use lib.Dec.{eqb, leb}
 use borrow.Author.Tests.{eq-eqb, ne_eqb, leb-true, leb-false, lt-ltb, le-ltb}
 use Rattle.arena.specs.Lists.{all, any, same_list, evens, odds, field, rising}
@@ -167,6 +168,14 @@ module _ (l : List ℕ) (i : ℕ) where
       go (x ∷ y ∷ z ∷ r) k = absurd (omega arith)
 
 -- ---- two runs
+
+-- what `==` answers at slices
+pub same_list_is : (a b : List ℕ) → pointwise eqb a b ≡ same_list a b
+unfolding same_list
+same_list_is [] [] = refl
+same_list_is [] (y ∷ ys) = refl
+same_list_is (x ∷ xs) [] = refl
+same_list_is (x ∷ xs) (y ∷ ys) = ap (λ t. eqb x y && t) (same_list_is xs ys)
 
 module _ (a b : List ℕ) where
   pub list_hit : (i : ℕ) → i < length a → i < length b → get_or a i 0 ≡ get_or b i 0 → same_list (drop i a) (drop i b) ≡ same_list (drop (i + 1) a) (drop (i + 1) b)

@@ -11,3 +11,4 @@ pub mod Fresh
 pub mod Did
 pub mod Values
 pub mod Meaning
+pub mod View

@@ -11,10 +11,8 @@ use crate::{HEADER, TermPos, TypePos};
 pub fn clear_back(cells: &mut [u64], mark: usize)
     ensures { cells.new ≡ cleared cells.old mark }
 {
-    let mut i = mark;
-    while i < cells.len() {
-        cells[i] = 0;
-        i += 1;
+    if mark < cells.len() {
+        cells[mark..].fill(0);
     }
 }
 
@@ -36,102 +34,97 @@ pub fn fresh(cells: &mut [u64]) -> u64
     12
 }
 
-// The kind of the node that starts at p, 0 where none does. The walk begins at the node that starts at `from`, where p is not below it.
-#[tactic(auto, using(crate::proofs::Starts::past_fits))]
-pub fn kind_from(cells: &[u64], mark: usize, from: u64, p: u64) -> u64
-    requires below { Below cells.now mark }
-    requires bound { 1 ≤ kind_at (used cells.now mark) from }
-    ensures { result ≡ kind_at (used cells.now mark) p }
-{
-    let mut at: usize = if p < from { 0 } else { from as usize };
-    while at < mark {
-        if p < at as u64 {
-            return 0;
+// The cells below a mark are nodes, to read.
+#[derive(Clone, Copy)]
+pub struct View<'a> {
+    pub cells: &'a [u64],
+    pub mark: usize,
+    ghost below: { Below cells.now mark },
+}
+
+impl<'a> View<'a> {
+    ghost use Rattle.arena.specs.View.{nodes_of};
+
+    // The kind of the node that starts at p, 0 where none does. The walk begins at the node that starts at `from`, where p is not below it.
+    #[tactic(auto, using(crate::proofs::Starts::past_fits))]
+    pub fn kind_from(&self, from: u64, p: u64) -> u64
+        requires { 1 ≤ kind_at (nodes_of self.now) from }
+        ensures { result ≡ kind_at (nodes_of self.now) p }
+    {
+        let mut at: usize = if p < from { 0 } else { from as usize };
+        while at < self.mark {
+            if p < at as u64 {
+                return 0;
+            }
+            if p == at as u64 {
+                return self.cells[at];
+            }
+            at += HEADER + self.cells[at + 3] as usize;
         }
-        if p == at as u64 {
-            return cells[at];
-        }
-        at += HEADER + cells[at + 3] as usize;
+        0
     }
-    0
-}
 
-// The kind of the node that starts at p, 0 where none does: p is any number.
-pub fn kind_at(cells: &[u64], mark: usize, p: u64) -> u64
-    requires { Below cells.now mark }
-    ensures { result ≡ kind_at (used cells.now mark) p }
-{
-    kind_from(cells, mark, 0, p)
-}
-
-// Whether a term starts at p.
-pub fn is_term(cells: &[u64], mark: usize, p: u64) -> bool
-    requires { Below cells.now mark }
-    ensures { result ≡ is_term (used cells.now mark) p }
-{
-    16 <= kind_at(cells, mark, p)
-}
-
-// Whether a type starts at p.
-pub fn is_type(cells: &[u64], mark: usize, p: u64) -> bool
-    requires { Below cells.now mark }
-    ensures { result ≡ is_type (used cells.now mark) p }
-{
-    let kind = kind_at(cells, mark, p);
-    if kind < 1 {
-        return false;
+    // The kind of the node that starts at p, 0 where none does: p is any number.
+    pub fn kind_at(&self, p: u64) -> u64
+        ensures { result ≡ kind_at (nodes_of self.now) p }
+    {
+        self.kind_from(0, p)
     }
-    kind <= 15
-}
 
-// The kind of the node that starts at p.
-pub fn kind_of(cells: &[u64], mark: usize, p: u64) -> u64
-    requires below { Below cells.now mark }
-    requires bound { 1 ≤ kind_at (used cells.now mark) p }
-    ensures { result ≡ kind_at (used cells.now mark) p }
-{
-    let at = p as usize;
-    cells[at]
-}
+    // Whether a term starts at p.
+    pub fn is_term(&self, p: u64) -> bool
+        ensures { result ≡ is_term (nodes_of self.now) p }
+    {
+        16 <= self.kind_at(p)
+    }
 
-// The type of the term that starts at t.
-pub fn type_of(cells: &[u64], mark: usize, t: TermPos) -> TypePos
-    requires below { Below cells.now mark }
-    requires bound { 1 ≤ kind_at (used cells.now mark) t.0 }
-    ensures { result.0 ≡ type_at (used cells.now mark) t.0 }
-{
-    let at = t.0 as usize;
-    TypePos(cells[at + 1])
-}
+    // Whether a type starts at p.
+    pub fn is_type(&self, p: u64) -> bool
+        ensures { result ≡ is_type (nodes_of self.now) p }
+    {
+        let kind = self.kind_at(p);
+        1 <= kind && kind <= 15
+    }
 
-// The parameter of the node that starts at p.
-pub fn par_of(cells: &[u64], mark: usize, p: u64) -> u64
-    requires below { Below cells.now mark }
-    requires bound { 1 ≤ kind_at (used cells.now mark) p }
-    ensures { result ≡ par_at (used cells.now mark) p }
-{
-    let at = p as usize;
-    cells[at + 2]
-}
+    // The kind of the node that starts at p.
+    pub fn kind_of(&self, p: u64) -> u64
+        requires { 1 ≤ kind_at (nodes_of self.now) p }
+        ensures { result ≡ kind_at (nodes_of self.now) p }
+    {
+        self.cells[p as usize]
+    }
 
-// The members of the node that starts at p.
-pub fn members_of(cells: &[u64], mark: usize, p: u64) -> &[u64]
-    requires below { Below cells.now mark }
-    requires bound { 1 ≤ kind_at (used cells.now mark) p }
-    ensures { result.now ≡ mem_at (used cells.now mark) p }
-{
-    let at = p as usize;
-    let from = at + HEADER;
-    let end = from + cells[at + 3] as usize;
-    &cells[from..end]
-}
+    // The type of the term that starts at t.
+    pub fn type_of(&self, t: TermPos) -> TypePos
+        requires { 1 ≤ kind_at (nodes_of self.now) t.0 }
+        ensures { result.0 ≡ type_at (nodes_of self.now) t.0 }
+    {
+        TypePos(self.cells[t.0 as usize + 1])
+    }
 
-// Member i of the node that starts at p, 0 past its members.
-pub fn arg_of(cells: &[u64], mark: usize, p: u64, i: usize) -> u64
-    requires below { Below cells.now mark }
-    requires bound { 1 ≤ kind_at (used cells.now mark) p }
-    ensures { result ≡ arg_at (used cells.now mark) p i }
-{
-    let members = members_of(cells, mark, p);
-    if i < members.len() { members[i] } else { 0 }
+    // The parameter of the node that starts at p.
+    pub fn par_of(&self, p: u64) -> u64
+        requires { 1 ≤ kind_at (nodes_of self.now) p }
+        ensures { result ≡ par_at (nodes_of self.now) p }
+    {
+        self.cells[p as usize + 2]
+    }
+
+    // The members of the node that starts at p.
+    pub fn members_of(&self, p: u64) -> &'a [u64]
+        requires { 1 ≤ kind_at (nodes_of self.now) p }
+        ensures { result.now ≡ mem_at (nodes_of self.now) p }
+    {
+        let from = p as usize + HEADER;
+        let end = from + self.cells[p as usize + 3] as usize;
+        &self.cells[from..end]
+    }
+
+    // Member i of the node that starts at p, 0 past its members.
+    pub fn arg_of(&self, p: u64, i: usize) -> u64
+        requires { 1 ≤ kind_at (nodes_of self.now) p }
+        ensures { result ≡ arg_at (nodes_of self.now) p i }
+    {
+        self.members_of(p).get(i).copied().unwrap_or(0)
+    }
 }

@@ -1,2 +1,3 @@
--- What the answers of a builder stand for.
-pub mod Replies
+-- A node by its cells, and what a builder leaves of an arena.
+pub mod Node
+pub mod Builds

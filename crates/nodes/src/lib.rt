@@ -3,184 +3,210 @@
 #![tactic(auto)]
 
 ghost use Rattle.std.specs.Prelude.{◌≡◌, true, ◌++◌, ◌+◌, ◌≤◌, length, take, drop};
-ghost use Rattle.std.proofs.Math.Seq.{paste};
-ghost use Rattle.arena.specs.Lists.{same_list};
-ghost use Rattle.arena.specs.Nodes.{node, header, size, same, find as findNode, put};
-ghost use Rattle.arena.specs.Cells.{cells_of, used, node_here, after};
-ghost use Rattle.arena.specs.WellFormed.{Below, IsArena, good_node};
-ghost use Rattle.arena.specs.Did.{Did, put_typed, found_or};
-ghost use Rattle.nodes.specs.Replies.{term_reply, type_reply, node_reply};
+ghost use Rattle.arena.specs.Nodes.{node, header, same, find as findNode, put, kind_at, type_at, par_at, mem_at, arg_at};
+ghost use Rattle.arena.specs.Cells.{cells_of, node_here, after};
+ghost use Rattle.arena.specs.WellFormed.{good_node};
+ghost use Rattle.arena.specs.Did.{put_typed};
+ghost use Rattle.nodes.specs.Node.{node_of, spot};
 
+use arena::cells::View;
 use arena::{HEADER, TermPos, TypePos};
 
-// The cells below the mark are in use: the next node starts there.
-#[derive(Clone, Copy)]
-pub struct Cursor {
-    pub mark: usize,
-}
+// There is no room for a node.
+#[derive(Clone, Copy, Debug, PartialEq, Eq)]
+pub struct Full;
 
-// A term found or added and the cursor behind it, or no room.
+// A node's cells, but for the count of its members.
 #[derive(Clone, Copy)]
-pub enum TermStep {
-    At(Cursor, TermPos),
-    Full,
-}
-
-// A type found or added and the cursor behind it, or no room.
-#[derive(Clone, Copy)]
-pub enum TypeStep {
-    At(Cursor, TypePos),
-    Full,
-}
-
-// The same of a node of either sort.
-#[derive(Clone, Copy)]
-pub enum NodeStep {
-    At(Cursor, u64),
-    Full,
-}
-
-// Whether these cells stand from `from` on.
-fn same_run(cells: &[u64], from: usize, run: &[u64]) -> bool
-    requires { from + length run.now ≤ length cells.now }
-    ensures { result ≡ same_list (take (length run.now) (drop from cells.now)) run.now }
-{
-    let mut i: usize = 0;
-    while i < run.len() {
-        if cells[from + i] != run[i] {
-            return false;
-        }
-        i += 1;
-    }
-    true
+struct Node<'a> {
+    kind: u64,
+    ty: u64,
+    par: u64,
+    members: &'a [u64],
 }
 
 // Whether the node at `at` has these cells. The header is looked at first.
-fn same_node(cells: &[u64], at: usize, kind: u64, ty: u64, par: u64, members: &[u64]) -> bool
+fn same_node(cells: &[u64], at: usize, node: &Node<'_>) -> bool
     requires { after cells.now at ≤ length cells.now }
-    ensures { result ≡ same (node_here cells.now at) (node kind ty par members.now) }
+    ensures { result ≡ same (node_here cells.now at) (node_of node.now) }
 {
-    if cells[at] != kind {
+    if cells[at] != node.kind {
         return false;
     }
-    if cells[at + 1] != ty {
+    if cells[at + 1] != node.ty {
         return false;
     }
-    if cells[at + 2] != par {
+    if cells[at + 2] != node.par {
         return false;
     }
-    if cells[at + 3] != members.len() as u64 {
-        return false;
-    }
-    same_run(cells, at + HEADER, members)
-}
-
-// Where the node with these cells starts, or the mark.
-fn find(cells: &[u64], mark: usize, kind: u64, ty: u64, par: u64, members: &[u64]) -> usize
-    requires { Below cells.now mark }
-    ensures { result ≡ found_or mark (findNode (used cells.now mark) (node kind ty par members.now)) }
-{
-    let mut at: usize = 0;
-    while at < mark {
-        if same_node(cells, at, kind, ty, par, members) {
-            return at;
-        }
-        at += HEADER + cells[at + 3] as usize;
-    }
-    mark
-}
-
-// Writes a run of cells.
-fn copy_in(cells: &mut [u64], from: usize, run: &[u64])
-    requires { from + length run.now ≤ length cells.old }
-    ensures { cells.new ≡ paste cells.old from run.now (length run.now) }
-{
-    let mut i: usize = 0;
-    while i < run.len() {
-        cells[from + i] = run[i];
-        i += 1;
-    }
+    let from = at + HEADER;
+    let end = from + cells[at + 3] as usize;
+    &cells[from..end] == node.members
 }
 
 // Writes a node at the mark.
-fn add(cells: &mut [u64], mark: usize, kind: u64, ty: u64, par: u64, members: &[u64])
-    requires { mark + (header + length members.now) ≤ length cells.old }
-    ensures { cells.new ≡ take mark cells.old ++ (cells_of (node kind ty par members.now) ++ drop (mark + (header + length members.now)) cells.old) }
+fn add(cells: &mut [u64], mark: usize, node: &Node<'_>)
+    requires { mark + (header + length node.now.members.now) ≤ length cells.old }
+    ensures { cells.new ≡ take mark cells.old ++ (cells_of (node_of node.now) ++ drop (mark + (header + length node.now.members.now)) cells.old) }
 {
-    cells[mark] = kind;
-    cells[mark + 1] = ty;
-    cells[mark + 2] = par;
-    cells[mark + 3] = members.len() as u64;
-    copy_in(cells, mark + HEADER, members);
+    cells[mark] = node.kind;
+    cells[mark + 1] = node.ty;
+    cells[mark + 2] = node.par;
+    cells[mark + 3] = node.members.len() as u64;
+    let from = mark + HEADER;
+    cells[from..from + node.members.len()].copy_from_slice(node.members);
 }
 
-impl Cursor {
-    // The node is looked for, and added where it is not there.
-    fn place(self, cells: &mut [u64], kind: u64, ty: u64, par: u64, members: &[u64]) -> NodeStep
-        requires { IsArena cells.old self.mark }
-        ensures { Did (λ a. put a (node kind ty par members.now)) cells.old self.mark (node_reply result) cells.new }
+// Lent cells in which nodes are built: the next one starts at the mark.
+#[derive(Drop)]
+pub struct Arena<'a> {
+    pub cells: &'a mut [u64],
+    pub mark: usize,
+}
+
+impl Arena<'_> {
+    ghost use Rattle.nodes.specs.Builds.{nodes_of, Formed, IsRead, term_reply, type_reply, node_reply, Builds};
+
+    // The nodes, to read.
+    pub fn view(&self) -> View<'_>
+        requires { IsRead self.now }
+        ensures cells { result.cells.now ≡ self.now.cells.now }
+        ensures mark { result.mark ≡ self.now.mark }
     {
-        let mark = self.mark;
-        let at = find(cells, mark, kind, ty, par, members);
-        let size = HEADER + members.len();
-        let needed = if at < mark { 0 } else { size };
-        if cells.len() - mark < needed {
-            return NodeStep::Full;
+        View {
+            cells: self.cells,
+            mark: self.mark,
         }
-        if at < mark {
-            return NodeStep::At(self, at as u64);
+    }
+
+    // The kind of the node that starts at p.
+    pub fn kind_of(&self, p: u64) -> u64
+        requires below { IsRead self.now }
+        requires bound { 1 ≤ kind_at (nodes_of self.now) p }
+        ensures { result ≡ kind_at (nodes_of self.now) p }
+    {
+        self.view().kind_of(p)
+    }
+
+    // The type of the term that starts at t.
+    pub fn type_of(&self, t: TermPos) -> TypePos
+        requires below { IsRead self.now }
+        requires bound { 1 ≤ kind_at (nodes_of self.now) t.0 }
+        ensures { result.0 ≡ type_at (nodes_of self.now) t.0 }
+    {
+        self.view().type_of(t)
+    }
+
+    // The parameter of the node that starts at p.
+    pub fn par_of(&self, p: u64) -> u64
+        requires below { IsRead self.now }
+        requires bound { 1 ≤ kind_at (nodes_of self.now) p }
+        ensures { result ≡ par_at (nodes_of self.now) p }
+    {
+        self.view().par_of(p)
+    }
+
+    // The members of the node that starts at p.
+    pub fn members_of(&self, p: u64) -> &[u64]
+        requires below { IsRead self.now }
+        requires bound { 1 ≤ kind_at (nodes_of self.now) p }
+        ensures { result.now ≡ mem_at (nodes_of self.now) p }
+    {
+        self.view().members_of(p)
+    }
+
+    // Member i of the node that starts at p, 0 past its members.
+    pub fn arg_of(&self, p: u64, i: usize) -> u64
+        requires below { IsRead self.now }
+        requires bound { 1 ≤ kind_at (nodes_of self.now) p }
+        ensures { result ≡ arg_at (nodes_of self.now) p i }
+    {
+        self.view().arg_of(p, i)
+    }
+
+    // Where the node with these cells starts.
+    fn find(&self, node: &Node<'_>) -> Option<usize>
+        requires { IsRead self.now }
+        ensures { result ≡ spot (findNode (nodes_of self.now) (node_of node.now)) }
+    {
+        let mut at: usize = 0;
+        while at < self.mark {
+            if same_node(self.cells, at, node) {
+                return Some(at);
+            }
+            at += HEADER + self.cells[at + 3] as usize;
         }
-        add(cells, mark, kind, ty, par, members);
-        NodeStep::At(Cursor { mark: mark + size }, mark as u64)
+        None
+    }
+
+    // The node is looked for, and added where it is not there.
+    fn place(&mut self, node: &Node<'_>) -> Result<u64, Full>
+        requires { Formed self.old }
+        ensures { Builds (λ a. put a (node_of node.now)) self.old (node_reply result) self.new }
+    {
+        if let Some(at) = self.find(node) {
+            return Ok(at as u64);
+        }
+        let at = self.mark;
+        let size = HEADER + node.members.len();
+        if self.cells.len() - at < size {
+            return Err(Full);
+        }
+        add(self.cells, at, node);
+        self.mark = at + size;
+        Ok(at as u64)
     }
 
     // The term of this kind, type, parameter and members.
     pub fn term_node(
-        self,
-        cells: &mut [u64],
+        &mut self,
         kind: u64,
         ty: TypePos,
         par: u64,
         members: &[u64],
-    ) -> TermStep
-        requires { IsArena cells.old self.mark }
-        ensures { Did (λ a. put a (node kind ty.0 par members.now)) cells.old self.mark (term_reply result) cells.new }
+    ) -> Result<TermPos, Full>
+        requires { Formed self.old }
+        ensures { Builds (λ a. put a (node kind ty.0 par members.now)) self.old (term_reply result) self.new }
     {
-        match self.place(cells, kind, ty.0, par, members) {
-            NodeStep::At(next, p) => TermStep::At(next, TermPos(p)),
-            NodeStep::Full => TermStep::Full,
-        }
+        let ty = ty.0;
+        let p = self.place(&Node {
+            kind,
+            ty,
+            par,
+            members,
+        })?;
+        Ok(TermPos(p))
     }
 
     // The type of this kind, parameter and members.
-    pub fn type_node(self, cells: &mut [u64], kind: u64, par: u64, members: &[u64]) -> TypeStep
-        requires { IsArena cells.old self.mark }
-        ensures { Did (λ a. put a (node kind 0 par members.now)) cells.old self.mark (type_reply result) cells.new }
+    pub fn type_node(&mut self, kind: u64, par: u64, members: &[u64]) -> Result<TypePos, Full>
+        requires { Formed self.old }
+        ensures { Builds (λ a. put a (node kind 0 par members.now)) self.old (type_reply result) self.new }
     {
-        match self.place(cells, kind, 0, par, members) {
-            NodeStep::At(next, p) => TypeStep::At(next, TypePos(p)),
-            NodeStep::Full => TypeStep::Full,
-        }
+        let p = self.place(&Node {
+            kind,
+            ty: 0,
+            par,
+            members,
+        })?;
+        Ok(TypePos(p))
     }
 
     // The type is found or added before the term of it.
     pub fn typed_node(
-        self,
-        cells: &mut [u64],
+        &mut self,
         tkind: u64,
         tpar: u64,
         tmembers: &[u64],
         kind: u64,
         par: u64,
         members: &[u64],
-    ) -> TermStep
-        requires arena { IsArena cells.old self.mark }
-        requires tmembers_value { good_node (used cells.old self.mark) (node tkind 0 tpar tmembers.now) ≡ true }
-        ensures { Did (λ a. put_typed a (node tkind 0 tpar tmembers.now) kind par members.now) cells.old self.mark (term_reply result) cells.new }
+    ) -> Result<TermPos, Full>
+        requires arena { Formed self.old }
+        requires tmembers_value { good_node (nodes_of self.old) (node tkind 0 tpar tmembers.now) ≡ true }
+        ensures { Builds (λ a. put_typed a (node tkind 0 tpar tmembers.now) kind par members.now) self.old (term_reply result) self.new }
     {
-        match self.type_node(cells, tkind, tpar, tmembers) {
-            TypeStep::At(next, t) => next.term_node(cells, kind, t, par, members),
-            TypeStep::Full => TermStep::Full,
-        }
+        let ty = self.type_node(tkind, tpar, tmembers)?;
+        self.term_node(kind, ty, par, members)
     }
 }

@@ -1,9 +1,0 @@
-use Prim.Native.Nat.{◌≤◌, ◌-◌}
-use Rattle.arena.proofs.Starts.{Past}
-use Rattle.arena.proofs.cells.kind_from.Given as goal
-
-abbrev pub invariant-loop-at : goal.invariant-loop-at
-invariant-loop-at l = (l.at ≤ l.mark) × Past l.cells l.mark l.p l.at
-
-abbrev pub decreases-loop-at : goal.decreases-loop-at
-decreases-loop-at l = l.mark - l.at
