@@ -1,13 +1,16 @@
 -- The first test that holds is given: one law for each number, from what the tests answer one after the other.
 use mathlib.Core.Path.{◌≡◌, sym, ap, ap₂, ◌∙◌}
 use mathlib.Core.Bool.{Bool, true, false, not, ◌&&◌, ◌||◌}
+use Prim.Native.Nat.{ℕ}
+use mathlib.Core.List.{List}
+use lib.ListN.{drop}
 use lib.Dec.{eqb}
 use borrow.Author.Tests.{not-true, not-false}
 use Rattle.arena.specs.Nodes.{Nodes}
 use Rattle.instruction.specs.Instruction.{Instr}
 use Rattle.table.specs.Table.{Shape, known, row}
 use Rattle.table.specs.Call.{count_ok, too_many, operands_ok, first_of, tests, refusal}
-use Rattle.table.specs.Forms.{Suited}
+use Rattle.table.specs.Forms.{Suited, listed}
 
 module _ (a : Nodes) (i : Instr) {b1 : Bool} (e1 : b1 ≡ known i.op) where
   pub unknown : not b1 ≡ true → 2 ≡ refusal a i
@@ -47,26 +50,34 @@ module _ (a : Nodes) (i : Instr) {b1 : Bool} (e1 : b1 ≡ known i.op) where
             pub suited : Suited a i.op i.operands
             suited = sym four ∙ not-false b4 h4
 
-            module _ {b5 : Bool} (e5 : b5 ≡ (row i.op).five a i.operands) where
-              pub at_5 : b5 ≡ true → 5 ≡ refusal a i
-              unfolding refusal tests first_of
-              at_5 h = rw (known-op, refusal, sym two ∙ h2, sym three ∙ h3, suited, sym e5 ∙ h)
+            -- only tests 5 to 8 are left
+            pub past_4 : first_of (drop 3 (tests a (listed i.op i.par i.operands) (row i.op))) ≡ refusal a i
+            unfolding refusal tests first_of
+            past_4 = rw (known-op, refusal, sym two ∙ h2, sym three ∙ h3, suited)
 
-              module _ (h5 : b5 ≡ false) {b6 : Bool} (e6 : b6 ≡ (row i.op).six a i.par i.operands) where
-                pub at_6 : b6 ≡ true → 6 ≡ refusal a i
-                unfolding refusal tests first_of
-                at_6 h = rw (known-op, refusal, sym two ∙ h2, sym three ∙ h3, suited, sym e5 ∙ h5, sym e6 ∙ h)
+-- ---- tests 5 to 8, of an operation on operands that passed those before
 
-                module _ (h6 : b6 ≡ false) {b7 : Bool} (e7 : b7 ≡ (row i.op).seven a i.par i.operands) where
-                  pub at_7 : b7 ≡ true → 7 ≡ refusal a i
-                  unfolding refusal tests first_of
-                  at_7 h = rw (known-op, refusal, sym two ∙ h2, sym three ∙ h3, suited, sym e5 ∙ h5, sym e6 ∙ h6, sym e7 ∙ h)
+module _ (a : Nodes) (o p : ℕ) (xs : List ℕ) where
+  module _ {b5 : Bool} (e5 : b5 ≡ (row o).five a xs) where
+    pub at_5 : b5 ≡ true → 5 ≡ first_of (drop 3 (tests a (listed o p xs) (row o)))
+    unfolding tests first_of
+    at_5 h = rw (sym e5 ∙ h)
 
-                  module _ (h7 : b7 ≡ false) {b8 : Bool} (e8 : b8 ≡ (row i.op).eight a i.par i.operands) where
-                    pub at_8 : b8 ≡ true → 8 ≡ refusal a i
-                    unfolding refusal tests first_of
-                    at_8 h = rw (known-op, refusal, sym two ∙ h2, sym three ∙ h3, suited, sym e5 ∙ h5, sym e6 ∙ h6, sym e7 ∙ h7, sym e8 ∙ h)
+    module _ (h5 : b5 ≡ false) {b6 : Bool} (e6 : b6 ≡ (row o).six a p xs) where
+      pub at_6 : b6 ≡ true → 6 ≡ first_of (drop 3 (tests a (listed o p xs) (row o)))
+      unfolding tests first_of
+      at_6 h = rw (sym e5 ∙ h5, sym e6 ∙ h)
 
-                    pub accepted : b8 ≡ false → 0 ≡ refusal a i
-                    unfolding refusal tests first_of
-                    accepted h = rw (known-op, refusal, sym two ∙ h2, sym three ∙ h3, suited, sym e5 ∙ h5, sym e6 ∙ h6, sym e7 ∙ h7, sym e8 ∙ h)
+      module _ (h6 : b6 ≡ false) {b7 : Bool} (e7 : b7 ≡ (row o).seven a p xs) where
+        pub at_7 : b7 ≡ true → 7 ≡ first_of (drop 3 (tests a (listed o p xs) (row o)))
+        unfolding tests first_of
+        at_7 h = rw (sym e5 ∙ h5, sym e6 ∙ h6, sym e7 ∙ h)
+
+        module _ (h7 : b7 ≡ false) {b8 : Bool} (e8 : b8 ≡ (row o).eight a p xs) where
+          pub at_8 : b8 ≡ true → 8 ≡ first_of (drop 3 (tests a (listed o p xs) (row o)))
+          unfolding tests first_of
+          at_8 h = rw (sym e5 ∙ h5, sym e6 ∙ h6, sym e7 ∙ h7, sym e8 ∙ h)
+
+          pub accepted : b8 ≡ false → 0 ≡ first_of (drop 3 (tests a (listed o p xs) (row o)))
+          unfolding tests first_of
+          accepted h = rw (sym e5 ∙ h5, sym e6 ∙ h6, sym e7 ∙ h7, sym e8 ∙ h)

@@ -1,16 +1,15 @@
--- What test 4 shows of the operands, and one turn of a loop over them, by ones or by twos.
+-- What test 4 shows of the operands.
 use mathlib.Core.Path.{◌≡◌, refl, sym, ap, ◌∙◌, subst}
 use Prim.Native.Nat.{ℕ, zero, suc, ◌+◌, ◌-◌, ◌≤◌, ◌<◌}
 use native.Mathlib.Omega.{arith}
 use mathlib.Core.Bool.{Bool, true, false, not, ◌&&◌, ◌||◌}
 use mathlib.Core.Logic.{◌⊎◌, inl, inr}
-use mathlib.Core.Option.{Option, none, some}
 use mathlib.Core.List.{List, [], ◌∷◌}
-use lib.ListN.{length, replicate, drop, get_or, drop_of_length-le, length-replicate}
-use lib.Seq.{drop-cons, drop-drop}
+use lib.ListN.{length, replicate, take, drop, length-replicate}
+use Rattle.std.proofs.lemmas.Slice.{between_to_end}
 use lib.Dec.{eqb, leb, ltb}
-use borrow.Author.Tests.{eq-eqb, ne_eqb, eqb-true, leb-true, leb-false, lt-ltb, le-ltb, not-false}
-use Rattle.arena.specs.Lists.{all, any, evens, odds, field}
+use borrow.Author.Tests.{eq-eqb, ne_eqb, eqb-true, leb-true, leb-false, le-leb, lt-leb, lt-ltb, le-ltb, not-false}
+use Rattle.arena.specs.Lists.{every, within, all, any, odds}
 use Rattle.arena.specs.Nodes.{Nodes, kind_at, type_at, width_at}
 use Rattle.arena.specs.WellFormed.{is_type, is_term, Below}
 use Rattle.arena.specs.Cells.{used}
@@ -18,20 +17,12 @@ use Rattle.arena.proofs.Bools.{t≢f, and_l, and_r, or_cases}
 use Rattle.arena.proofs.Chain.{term_type, type-kind}
 use Rattle.arena.proofs.Types.{width_range}
 use Rattle.arena.proofs.Formed.{wf}
-use Rattle.runs.specs.Strides.{heads}
 use Rattle.table.specs.Table.{Sort, ty, tm, Shape, fixed, pairs, run, #0, rest, not_of, not_alike, table, row_of, row}
 use Rattle.table.specs.Call.{sort_ok, sorts_ok, operands_ok}
-use Rattle.table.specs.Forms.{sorts, Terms, Suited, lacks}
+use Rattle.table.specs.Forms.{sorts, Terms, Suited}
 use Rattle.table.proofs.Numbers.{told, one_by_one}
 
 -- ---- operands in a row
-
-pub odds_from : (xs : List ℕ) → odds xs ≡ evens (drop 1 xs)
-unfolding odds evens
-odds_from [] = refl
-odds_from (x ∷ []) = refl
-odds_from (x ∷ y ∷ []) = refl
-odds_from (x ∷ y ∷ z ∷ r) = ap (λ (l : List ℕ). y ∷ l) (odds_from (z ∷ r))
 
 -- these are terms and no more, n of them or more
 unfoldable pub only_terms : ℕ → List Sort → Bool
@@ -154,11 +145,9 @@ module _ {a : Nodes} {xs : List ℕ} where
   terms-at o m n e t s = shape-terms a n (row m).shape xs t (subst (λ (z : ℕ). Suited a z xs) e s)
 
 -- what a compiled record's fields hold
-pub record_terms : (a : Nodes) (xs : List ℕ) (o : ℕ) → o ≡ 73 → Suited a o xs → all (is_term a) (evens (drop 1 xs)) ≡ true
+pub record_terms : (a : Nodes) (xs : List ℕ) (o : ℕ) → o ≡ 73 → Suited a o xs → all (is_term a) (odds xs) ≡ true
 unfolding row row_of table operands_ok sort_ok
-record_terms a xs o e s =
-    let t : all (is_term a) (odds xs) ≡ true = subst (λ (z : ℕ). Suited a z xs) e s in
-    subst (λ (l : List ℕ). all (is_term a) l ≡ true) (odds_from xs) t
+record_terms a xs o e s = subst (λ (z : ℕ). Suited a z xs) e s
 
 -- ---- what test 4 says, run by run
 
@@ -173,14 +162,14 @@ module _ (a : Nodes) where
       go true e = e
       go false e = refl
 
-  terms : (n : ℕ) (xs : List ℕ) → n ≤ length xs → all (sort_ok a tm) xs ≡ sorts_ok a (replicate n tm) xs
-  unfolding sorts_ok all
+  terms : (n : ℕ) (xs : List ℕ) → n ≤ length xs → all (is_term a) xs ≡ sorts_ok a (replicate n tm) xs
+  unfolding sorts_ok sort_ok all
   terms zero [] h = refl
-  terms zero (x ∷ xs) h = ap (λ (b : Bool). sort_ok a tm x && b) (terms zero xs (omega arith))
+  terms zero (x ∷ xs) h = ap (λ (b : Bool). is_term a x && b) (terms zero xs (omega arith))
   terms (suc n) [] h = absurd (omega arith)
-  terms (suc n) (x ∷ xs) h = ap (λ (b : Bool). sort_ok a tm x && b) (terms n xs (omega arith))
+  terms (suc n) (x ∷ xs) h = ap (λ (b : Bool). is_term a x && b) (terms n xs (omega arith))
 
-  typed : (n : ℕ) (xs : List ℕ) → suc n ≤ length xs → (is_type a (#0 xs) && all (sort_ok a tm) (rest xs)) ≡ sorts_ok a (ty ∷ replicate n tm) xs
+  typed : (n : ℕ) (xs : List ℕ) → suc n ≤ length xs → (is_type a (#0 xs) && all (is_term a) (rest xs)) ≡ sorts_ok a (ty ∷ replicate n tm) xs
   unfolding sorts_ok sort_ok
   typed n [] h = absurd (omega arith)
   typed n (x ∷ xs) h = ap (λ (b : Bool). is_type a x && b) (terms n xs (omega arith))
@@ -190,10 +179,10 @@ module _ (a : Nodes) where
     pub sorts_few : length xs < k → false ≡ sorts_ok a (sorts b n) xs
     sorts_few h = few (sorts b n) xs (omega arith)
 
-    pub sorts-terms : b ≡ false → k ≤ length xs → all (sort_ok a tm) xs ≡ sorts_ok a (sorts b n) xs
+    pub sorts-terms : b ≡ false → k ≤ length xs → all (is_term a) xs ≡ sorts_ok a (sorts b n) xs
     sorts-terms f h = go b f e
       where
-        go : (b : Bool) → b ≡ false → k ≡ length (sorts b n) → all (sort_ok a tm) xs ≡ sorts_ok a (sorts b n) xs
+        go : (b : Bool) → b ≡ false → k ≡ length (sorts b n) → all (is_term a) xs ≡ sorts_ok a (sorts b n) xs
         go true f e = t≢f f
         go false f e = let l = length-replicate n tm in terms n xs (omega arith)
 
@@ -204,14 +193,18 @@ module _ (a : Nodes) where
         go true t e = omega arith
         go false t e = t≢f (sym t)
 
-    pub sorts-typed : b ≡ true → k ≤ length xs → (is_type a (#0 xs) && all (sort_ok a tm) (rest xs)) ≡ sorts_ok a (sorts b n) xs
+    pub sorts-typed : b ≡ true → k ≤ length xs → (is_type a (#0 xs) && all (is_term a) (rest xs)) ≡ sorts_ok a (sorts b n) xs
     sorts-typed t h = go b t e
       where
-        go : (b : Bool) → b ≡ true → k ≡ length (sorts b n) → (is_type a (#0 xs) && all (sort_ok a tm) (rest xs)) ≡ sorts_ok a (sorts b n) xs
+        go : (b : Bool) → b ≡ true → k ≡ length (sorts b n) → (is_type a (#0 xs) && all (is_term a) (rest xs)) ≡ sorts_ok a (sorts b n) xs
         go true t e = let l = length-replicate n tm in typed n xs (omega arith)
         go false t e = t≢f (sym t)
 
 -- ---- terms of one type
+
+-- `&xs[1..]`
+pub rest_cut : (xs : List ℕ) → take (length xs - 1) (drop 1 xs) ≡ rest xs
+rest_cut xs = between_to_end xs 1 (length xs) (omega arith)
 
 pub terms-rest : {a : Nodes} (xs : List ℕ) → Terms a 1 xs → all (is_term a) (rest xs) ≡ true
 unfolding all
@@ -230,79 +223,6 @@ module _ (a : Nodes) (k : ℕ) (xs : List ℕ) where
       go [] l = absurd (omega arith)
       go (x ∷ r) l = unfold any in rw (eq-eqb (type_at a x) (type_at a x) refl)
 
--- ---- one turn
-
-evens-two : (x : ℕ) (r : List ℕ) → evens (x ∷ r) ≡ x ∷ evens (drop 1 r)
-unfolding evens
-evens-two x [] = refl
-evens-two x (y ∷ r) = refl
-
-by_step : (P : ℕ → Type 0) → P 1 → P 2 → (s : ℕ) → 1 ≤ s → s ≤ 2 → P s
-by_step P x y zero a b = absurd (omega arith)
-by_step P x y (suc zero) a b = x
-by_step P x y (suc (suc zero)) a b = y
-by_step P x y (suc (suc (suc s))) a b = absurd (omega arith)
-
-module _ (l : List ℕ) (i : ℕ) where
-  heads-at : (s : ℕ) → 1 ≤ s → s ≤ 2 → i < length l → heads s (drop i l) ≡ get_or l i 0 ∷ heads s (drop (i + s) l)
-  heads-at =
-      by_step (λ s. i < length l → heads s (drop i l) ≡ get_or l i 0 ∷ heads s (drop (i + s) l))
-      (λ h. let e : suc i ≡ i + 1 = omega arith in drop-cons l i 0 h ∙ ap (λ (j : ℕ). get_or l i 0 ∷ drop j l) e)
-      (λ h.
-      let e : suc i + 1 ≡ i + 2 = omega arith in
-      ap evens (drop-cons l i 0 h) ∙ evens-two (get_or l i 0) (drop (suc i) l)
-      ∙ ap (λ (r : List ℕ). get_or l i 0 ∷ evens r) (drop-drop 1 (suc i) l ∙ ap (λ (j : ℕ). drop j l) e))
-
-  heads_end : (s : ℕ) → 1 ≤ s → s ≤ 2 → length l ≤ i → heads s (drop i l) ≡ []
-  unfolding evens
-  heads_end =
-      by_step (λ s. length l ≤ i → heads s (drop i l) ≡ []) (λ h. drop_of_length-le l {i = i} h)
-      (λ h. ap evens (drop_of_length-le l {i = i} h))
-
-  module _ (f : ℕ → Bool) (s : ℕ) (lo : 1 ≤ s) (hi : s ≤ 2) where
-    all_turn : i < length l → all f (heads s (drop i l)) ≡ (f (get_or l i 0) && all f (heads s (drop (i + s) l)))
-    unfolding all
-    all_turn h = ap (all f) (heads-at s lo hi h)
-
-    any_turn : i < length l → any f (heads s (drop i l)) ≡ (f (get_or l i 0) || any f (heads s (drop (i + s) l)))
-    unfolding any
-    any_turn h = ap (any f) (heads-at s lo hi h)
-
-    pub all_hit : i < length l → f (get_or l i 0) ≡ true → all f (heads s (drop i l)) ≡ all f (heads s (drop (i + s) l))
-    all_hit h e = all_turn h ∙ ap (λ (b : Bool). b && all f (heads s (drop (i + s) l))) e
-
-    pub all_miss : i < length l → f (get_or l i 0) ≡ false → all f (heads s (drop i l)) ≡ false
-    all_miss h e = all_turn h ∙ ap (λ (b : Bool). b && all f (heads s (drop (i + s) l))) e
-
-    pub all_end : length l ≤ i → all f (heads s (drop i l)) ≡ true
-    unfolding all
-    all_end h = ap (all f) (heads_end s lo hi h)
-
-    pub any_hit : i < length l → f (get_or l i 0) ≡ true → any f (heads s (drop i l)) ≡ true
-    any_hit h e = any_turn h ∙ ap (λ (b : Bool). b || any f (heads s (drop (i + s) l))) e
-
-    pub any_miss : i < length l → f (get_or l i 0) ≡ false → any f (heads s (drop i l)) ≡ any f (heads s (drop (i + s) l))
-    any_miss h e = any_turn h ∙ ap (λ (b : Bool). b || any f (heads s (drop (i + s) l))) e
-
-    pub any_end : length l ≤ i → any f (heads s (drop i l)) ≡ false
-    unfolding any
-    any_end h = ap (any f) (heads_end s lo hi h)
-
-    -- where all pass, this one does, and all after it
-    pub all_here : i < length l → all f (heads s (drop i l)) ≡ true → f (get_or l i 0) ≡ true
-    all_here h e = and_l (f (get_or l i 0)) (all f (heads s (drop (i + s) l))) (sym (all_turn h) ∙ e)
-
-    pub all-next : i < length l → all f (heads s (drop i l)) ≡ true → all f (heads s (drop (i + s) l)) ≡ true
-    all-next h e = and_r (f (get_or l i 0)) (all f (heads s (drop (i + s) l))) (sym (all_turn h) ∙ e)
-
--- ---- attributes
-
-pub lacks_none : (r : List ℕ) (k : ℕ) → field r k ≡ none → true ≡ lacks r k
-lacks_none r k e = sym (ap (λ (o : Option ℕ). elim o [ none ↦ true | some t ↦ false ]) e)
-
-pub lacks_some : (r : List ℕ) (k t : ℕ) → field r k ≡ some t → false ≡ lacks r k
-lacks_some r k t e = sym (ap (λ (o : Option ℕ). elim o [ none ↦ true | some t ↦ false ]) e)
-
 -- ---- a term's type is a node
 
 pub type_pos : {c : List ℕ} {m : ℕ} → Below c m → (x : ℕ) → is_term (used c m) x ≡ true → 1 ≤ kind_at (used c m) (type_at (used c m) x)
@@ -317,6 +237,19 @@ width_small {c} {m} b o xs e h =
     let a = used c m in
     let z : not (eqb (kind_at a (type_at a (#0 xs))) 2) ≡ false = subst (λ (z : ℕ). (row z).five a xs ≡ false) e h in
     (width_range (wf b).chain (type_at a (#0 xs)) (eqb-true (kind_at a (type_at a (#0 xs))) 2 (not-false (eqb (kind_at a (type_at a (#0 xs))) 2) z))).1
+
+-- a width given
+pub width_off : (p : ℕ) → p < 1 → ltb p 1 ≡ not (within 1 64 p)
+unfolding every
+width_off p h = rw (lt-ltb p 1 h, lt-leb 1 p h)
+
+pub width_on : (p : ℕ) → 1 ≤ p → ltb 64 p ≡ not (within 1 64 p)
+unfolding every
+width_on p h = rw (le-leb 1 p h) (go (leb p 64) refl)
+  where
+    go : (b : Bool) → leb p 64 ≡ b → ltb 64 p ≡ not (b && true)
+    go true e = le-ltb 64 p (leb-true p 64 e)
+    go false e = lt-ltb 64 p (leb-false p 64 e)
 
 pub wider : (w p : ℕ) → w ≤ 64 → ltb (64 - w) p ≡ ltb 64 (w + p)
 wider w p h = go (leb p (64 - w)) refl

@@ -1,7 +1,6 @@
 -- What the tests of refusals 2 to 8 are told: how an operation lists its operands, and what the tests before have shown.
 use Rattle.std.specs.Prelude.{◌≡◌, ℕ, ◌≤◌, Bool, true, false, List, ◌∷◌, length, replicate}
-use Rattle.std.proofs.Math.Option.{none, some}
-use Rattle.arena.specs.Lists.{all, field}
+use Rattle.arena.specs.Lists.{all}
 use Rattle.arena.specs.Nodes.{Nodes}
 use Rattle.arena.specs.WellFormed.{is_term}
 use Rattle.instruction.specs.Instruction.{Instr}
@@ -47,10 +46,6 @@ pub record Terms (a : Nodes) (n : ℕ) (xs : List ℕ) : Type 0 where
 abbrev pub misfit : Nodes → Named → ℕ → Bool
 misfit a (named.Type t) x = not_of a t x
 misfit a (named.Kind k) x = not_kind k a x
-
--- the run of fields has no attribute k
-abbrev pub lacks : List ℕ → ℕ → Bool
-lacks r k = elim (field r k) [ none ↦ true | some t ↦ false ]
 
 abbrev pub instr : ℕ → ℕ → ℕ → List ℕ → Instr
 instr o p n xs = record { op = o; par = p; count = n; operands = xs }

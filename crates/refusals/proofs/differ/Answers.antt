@@ -3,7 +3,7 @@ use Rattle.refusals.proofs.differ.Goals as goal
 
 pub type_of-ty-requires : goal.type_of-ty-requires
 type_of-ty-requires c =
-    record { below = c.requires.below; bound = term_pos _ _ c.requires.x_value }
+    term_pos _ _ c.requires.x_value
 
 pub returns : goal.returns
 returns c = cc

@@ -4,11 +4,11 @@ use Rattle.refusals.proofs.misfits.Goals as goal
 
 pub type_of-ty-requires : goal.type_of-ty-requires
 type_of-ty-requires c =
-    record { below = c.requires.below; bound = term_pos _ _ c.requires.x_value }
+    term_pos _ _ c.requires
 
 pub kind_of-requires : goal.kind_of-requires
 kind_of-requires c =
-    record { below = c.requires.below; bound = rw c.type_of-ty.ensures (type_pos c.requires.below _ c.requires.x_value) }
+    rw c.type_of-ty.ensures (type_pos c.args.nodes.now.below _ c.requires)
 
 pub returns-in-Type : goal.returns-in-Type
 returns-in-Type c = cc

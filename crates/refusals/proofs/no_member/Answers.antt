@@ -4,15 +4,15 @@ use Rattle.refusals.proofs.no_member.Goals as goal
 
 pub type_of-set-requires : goal.type_of-set-requires
 type_of-set-requires c =
-    record { below = c.requires.below; bound = term_pos _ _ c.requires.y_value }
+    term_pos _ _ c.requires.y_value
 
 pub arg_of-elem-requires : goal.arg_of-elem-requires
 arg_of-elem-requires c =
-    record { below = c.requires.below; bound = rw c.type_of-set.ensures (type_pos c.requires.below _ c.requires.y_value) }
+    rw c.type_of-set.ensures (type_pos c.args.nodes.now.below _ c.requires.y_value)
 
 pub kind_of-requires : goal.kind_of-requires
 kind_of-requires c =
-    record { below = c.requires.below; bound = rw c.type_of-set.ensures (type_pos c.requires.below _ c.requires.y_value) }
+    rw c.type_of-set.ensures (type_pos c.args.nodes.now.below _ c.requires.y_value)
 
 pub returns : goal.returns
 returns c = cc

@@ -1,5 +1,4 @@
 use Rattle.table.specs.Call.{operands_ok}
-use Rattle.table.proofs.Suits.{odds_from}
 use Rattle.refusals.proofs.operands_ok.Goals as goal
 
 pub returns-in-Fixed : goal.returns-in-Fixed
@@ -8,7 +7,7 @@ returns-in-Fixed c = cc
 
 pub returns-in-Pairs : goal.returns-in-Pairs
 unfolding operands_ok
-returns-in-Pairs c = cc (odds_from c.args.xs.now)
+returns-in-Pairs c = cc
 
 pub returns-in-Run : goal.returns-in-Run
 unfolding operands_ok
