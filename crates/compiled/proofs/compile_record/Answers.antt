@@ -11,7 +11,7 @@ use Rattle.arena.specs.Lists.{all, odds}
 use Rattle.arena.specs.WellFormed.{small}
 use Rattle.arena.proofs.Ext.{ext_same}
 use Rattle.arena.proofs.Insertion.{holds-length}
-use Rattle.arena.proofs.Steps.{did_stop}
+use Rattle.nodes.proofs.Steps.{term_stop}
 use Rattle.compiled.proofs.compile_record.Goals as goal
 
 pub slice_bounds-record_if_all-end : goal.slice_bounds-record_if_all-end
@@ -31,9 +31,9 @@ record_if_all-requires c =
 pub returns-in-Got : goal.returns-in-Got
 returns-in-Got c = given_then c.args.list.now c.listed_options-n.ensures (held_got c.in-Got.is c.get_fields.ensures.holds_inner) (ap fields_reply c.in-Got.is) c.get_fields.ensures.did c.record_if_all.ensures
 
-pub returns-in-Full : goal.returns-in-Full
+pub returns-in_err-X : goal.returns-in_err-X
 unfolding compiled_record
-returns-in-Full c =
+returns-in_err-X c =
     let s = c.requires.ready in
     let w = ready_wf s in
     let l = got_all w c.args.list.now c.requires.list_len s.fit.0 ext_same w in

@@ -4,7 +4,6 @@ use mathlib.Core.Path.{◌≡◌, refl, ap, ◌∙◌}
 use native.Mathlib.Omega.{arith}
 use Rattle.compiler.proofs.Gather.{left-start, left-full, left-two, left_end, left-first, left_write}
 use Rattle.factory.proofs.Picks.{types_held}
-use Rattle.nodes.specs.Replies.{term_reply}
 use Rattle.compiled.proofs.get_fields.Goals as goal
 
 pub loop-i-init : goal.loop-i-init
@@ -19,8 +18,8 @@ bounds-inner-i-in-At c = let p = c.requires.list_in_bounds in let l = c.loop-i.i
 pub shape_of-cells-in-Full : goal.shape_of-cells-in-Full
 shape_of-cells-in-Full c = c.option_get.ensures.long ∙ c.loop-i.invariant.2
 
-pub returns-in-Full : goal.returns-in-Full
-returns-in-Full c = record { did = left-full _ _ _ (left-two c.args.list.now c.loop-i.i c.loop-i-test.true c.loop-i.invariant.4) (ap term_reply c.in-Full.is) c.option_get.ensures (let p = c.requires.list_len in let h = c.loop-i.invariant.1 in let t = c.loop-i-test.true in let z = length-drop (c.loop-i.i + 2) c.args.list.now in omega arith); holds_inner = tt }
+pub returns-in_err-X : goal.returns-in_err-X
+returns-in_err-X c = record { did = left-full _ _ _ (left-two c.args.list.now c.loop-i.i c.loop-i-test.true c.loop-i.invariant.4) (ap term_reply c.in-Full.is) c.option_get.ensures (let p = c.requires.list_len in let h = c.loop-i.invariant.1 in let t = c.loop-i-test.true in let z = length-drop (c.loop-i.i + 2) c.args.list.now in omega arith); holds_inner = tt }
 
 pub loop-i-preserved : goal.loop-i-preserved
 loop-i-preserved c =
