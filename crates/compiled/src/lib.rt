@@ -1,7 +1,7 @@
 // The compiled operators on unwrapped terms, as compiler.rs builds them: `compile_app1`, `compile_record`, and `compile_has_attr` and
 // `compile_get_attr` for records.
 
-#![tactic(auto)]
+#![tactic(auto, using(factory::proofs::Calls::term_pos))]
 
 ghost use Rattle.std.specs.Prelude.{◌≡◌, true, ◌*◌, ◌%◌, ◌≤◌, length};
 ghost use Rattle.arena.specs.Lists.{all, evens, odds};
@@ -19,7 +19,6 @@ ghost use Rattle.table.specs.Table.{row};
 ghost use Rattle.table.specs.Forms.{Passes};
 
 use arena::TermPos;
-use compiler::Fields;
 use factory_bitvectors::{bvneg, bvnego};
 use factory_core::not;
 use factory_data::runs::field_or_0;
@@ -72,29 +71,19 @@ pub fn compile_is_empty(arena: &mut Arena<'_>, t: TermPos) -> Result<TermPos, Fu
 // ---------- compile_record ----------
 
 // `option_get` of every listed field, also of one that a later field replaces: the fields with the inner terms, at the front of `inner`.
-fn get_fields(arena: &mut Arena<'_>, list: &[u64], inner: &mut [u64]) -> Fields
+fn get_fields(arena: &mut Arena<'_>, list: &[u64], inner: &mut [u64]) -> Result<(), Full>
     requires ready { Ready (λ a. Options a (odds list.now)) arena.old }
     requires list_len { length list.now % 2 ≡ 0 }
     requires list_in_bounds { length list.now ≤ length inner.old }
-    ensures did { Did (λ a. out (gotten a list.now) 0) arena.old (fields_reply result) cells.new }
+    ensures did { Builds (λ a. out (gotten a list.now) 0) arena.old (fields_reply result) arena.new }
     ensures holds_inner { HoldsInner (inner_of (nodes_of arena.old) list.now) inner.old (length list.now) result inner.new }
 {
-    let mut mark = cursor.mark;
-    let mut i: usize = 0;
-    while i + 1 < list.len() {
-        match option_get(cells, Cursor { mark }, TermPos(list[i + 1])) {
-            TermStep::At(next, p) => {
-                mark = next.mark;
-                inner[i] = list[i];
-                inner[i + 1] = p.0;
-            }
-            TermStep::Full => {
-                return Fields::Full;
-            }
-        }
-        i += 2;
+    for i in 0..list.len() / 2 {
+        let p = option_get(arena, TermPos(list[2 * i + 1]))?;
+        inner[2 * i] = list[2 * i];
+        inner[2 * i + 1] = p.0;
     }
-    Fields::Got(Cursor { mark })
+    Ok(())
 }
 
 // What the listed fields hold, at the front of `held`; how many.
@@ -102,14 +91,10 @@ fn listed_options(list: &[u64], held: &mut [u64]) -> usize
     requires { length list.now ≤ 2 * length held.old }
     ensures { Holds (odds list.now) held.old result held.new }
 {
-    let mut n: usize = 0;
-    let mut i: usize = 0;
-    while i + 1 < list.len() {
-        held[n] = list[i + 1];
-        n += 1;
-        i += 2;
+    for i in 0..list.len() / 2 {
+        held[i] = list[2 * i + 1];
     }
-    n
+    list.len() / 2
 }
 
 // Some of the record r, if all listed options are.
@@ -141,10 +126,8 @@ pub fn compile_record(arena: &mut Arena<'_>, list: &[u64]) -> Result<TermPos, Fu
     let mut held = [0u64; 64];
     let n = listed_options(list, &mut held);
     let mut inner = [0u64; 128];
-    match get_fields(arena, list, &mut inner) {
-        Fields::Got(next) => record_if_all(cells, next, &held[..n], &inner[..list.len()]),
-        Fields::Full => TermStep::Full,
-    }
+    get_fields(arena, list, &mut inner)?;
+    record_if_all(arena, &held[..n], &inner[..list.len()])
 }
 
 // ---------- compile_has_attr and compile_get_attr ----------

@@ -1,6 +1,6 @@
 // The dispatcher, the factory's operations: each is decided by its number, and builds as the table says.
 
-#![tactic(auto)]
+#![tactic(auto, using(factory::proofs::Calls::term_pos))]
 
 ghost use Rattle.std.specs.Prelude.{◌≡◌, ◌≤◌, drop};
 ghost use Rattle.nodes.specs.Builds.{nodes_of, Formed, Builds, term_reply, type_reply};
@@ -77,7 +77,12 @@ pub fn build_core(arena: &mut Arena<'_>, op: u64, par: u64, xs: &[u64]) -> Resul
 }
 
 // Bitvectors: 30 to 49.
-pub fn build_bitvector(arena: &mut Arena<'_>, op: u64, par: u64, xs: &[u64]) -> Result<TermPos, Full>
+pub fn build_bitvector(
+    arena: &mut Arena<'_>,
+    op: u64,
+    par: u64,
+    xs: &[u64],
+) -> Result<TermPos, Full>
     requires ready { Ready (λ a. Passes a op par xs.now) arena.old }
     requires le_op { 30 ≤ op × op ≤ 49 }
     ensures { Builds (λ a. (row op).build a par xs.now) arena.old (term_reply result) arena.new }

@@ -1,3 +1,4 @@
+use Rattle.nodes.specs.Builds.{nodes_of}
 use Rattle.std.proofs.Common.{arith}
 use mathlib.Core.Path.{refl, ◌∙◌}
 use Rattle.table.specs.Table.{tm, row, table, row_of}
@@ -5,7 +6,6 @@ use Rattle.table.proofs.Dispatch.{passed_at, up, same, build-at}
 use Rattle.table.proofs.Fits.{even_pairs, few_pairs, one-term, term-pairs, all_options, first_kind, width_64, one_bool, small-par, small-keys, field-there}
 use Rattle.factory.proofs.Calls.{ready_wf}
 use Rattle.factory.proofs.Guards.{options}
-use Rattle.arena.specs.Cells.{used}
 use Rattle.arena.specs.Lists.{odds}
 use Rattle.nodes.proofs.Steps.{builds_as}
 use Rattle.compiled.proofs.build_compiled.Goals as goal

@@ -1,3 +1,4 @@
+use Rattle.nodes.specs.Builds.{nodes_of}
 use Prim.Native.Nat.{ℕ}
 use lib.Dec.{eqb}
 use mathlib.Core.Bool.{true}
@@ -5,10 +6,9 @@ use mathlib.Core.List.{List}
 use mathlib.Core.Path.{◌≡◌, ap, ◌∙◌}
 use Rattle.compiler.specs.Compiler.{fields_at, optioned, compiled_get_attr}
 use Rattle.compiler.proofs.Optional.{optioned_ext}
-use Rattle.factory.proofs.Calls.{ready_wf, ready_next, term_pos}
+use Rattle.factory.proofs.Calls.{ready_wf, ready_next}
 use Rattle.factory.proofs.Operands.{type_pos}
 use Rattle.factory.proofs.Records.{record_get_law}
-use Rattle.arena.specs.Cells.{used}
 use Rattle.arena.specs.Lists.{field_d}
 use Rattle.arena.specs.Nodes.{type_at, mem_at}
 use Rattle.arena.specs.WellFormed.{is_term}
@@ -16,9 +16,6 @@ use Rattle.arena.proofs.Chain.{type-kind}
 use Rattle.nodes.proofs.Steps.{builds_then, term_stop, builds_as}
 use Rattle.arena.proofs.Whole.{field-type}
 use Rattle.compiled.proofs.compile_get_attr.Goals as goal
-
-pub type_of-ty-requires : goal.type_of-ty-requires
-type_of-ty-requires c = record { below = c.requires.arena.below; bound = term_pos _ _ c.requires.fit.rec.isterm }
 
 pub members_of-requires : goal.members_of-requires
 members_of-requires c = record { below = c.requires.arena.below; bound = rw c.type_of-ty.ensures (type_pos (ready_wf c.requires) c.args.t.0 c.requires.fit.rec.isterm) }

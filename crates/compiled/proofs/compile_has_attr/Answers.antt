@@ -1,22 +1,19 @@
+use Rattle.nodes.specs.Builds.{nodes_of}
 use Prim.Native.Nat.{ℕ}
 use mathlib.Core.Bool.{true, false}
 use mathlib.Core.List.{List}
 use mathlib.Core.Path.{sym, ap, ◌∙◌}
 use Rattle.compiler.specs.Compiler.{fields_at, has_field}
 use Rattle.compiler.proofs.Optional.{field-there, field-absent, has-absent, has-option, has-plain}
-use Rattle.factory.proofs.Calls.{ready_wf, term_pos}
+use Rattle.factory.proofs.Calls.{ready_wf}
 use Rattle.factory.proofs.Made.{bool-at_tm}
 use Rattle.factory.proofs.Operands.{type_pos}
-use Rattle.arena.specs.Cells.{used}
 use Rattle.arena.specs.Lists.{field_d}
 use Rattle.arena.specs.Nodes.{type_at, kind_at, mem_at}
 use Rattle.arena.proofs.Chain.{type-kind}
 use Rattle.nodes.proofs.Steps.{builds_as}
 use Rattle.arena.proofs.Whole.{field-type}
 use Rattle.compiled.proofs.compile_has_attr.Goals as goal
-
-pub type_of-ty-requires : goal.type_of-ty-requires
-type_of-ty-requires c = record { below = c.requires.arena.below; bound = term_pos _ _ c.requires.fit.0.isterm }
 
 pub members_of-fields-requires : goal.members_of-fields-requires
 members_of-fields-requires c = record { below = c.requires.arena.below; bound = rw c.type_of-ty.ensures (type_pos (ready_wf c.requires) c.args.t.0 c.requires.fit.0.isterm) }

@@ -1,5 +1,5 @@
 use mathlib.Core.Bool.{true}
-use mathlib.Core.Path.{◌≡◌, ap}
+use mathlib.Core.Path.{◌≡◌}
 use Rattle.compiler.specs.Compiler.{compiled_is_empty}
 use Rattle.factory.specs.Makers.{some_of}
 use Rattle.factory.proofs.Calls.{ready_wf, ready_next}

@@ -1,4 +1,3 @@
-use mathlib.Core.Path.{ap}
 use native.Mathlib.Omega.{arith}
 use Rattle.compiler.specs.Compiler.{neg_unless, compiled_neg}
 use Rattle.compiler.proofs.Optional.{kind_keep}

@@ -1,4 +1,3 @@
-use mathlib.Core.Path.{ap}
 use Rattle.compiler.specs.Compiler.{fields_at, has_some}
 use Rattle.compiler.proofs.Optional.{optional_got}
 use Rattle.factory.specs.Fit.{OfKind}

@@ -1,5 +1,5 @@
 use mathlib.Core.Bool.{true}
-use mathlib.Core.Path.{◌≡◌, ap}
+use mathlib.Core.Path.{◌≡◌}
 use Rattle.compiler.specs.Compiler.{if_all_given}
 use Rattle.factory.specs.Fit.{Options}
 use Rattle.factory.specs.Helpers.{if_all_some}

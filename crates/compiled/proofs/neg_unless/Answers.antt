@@ -1,5 +1,5 @@
 use mathlib.Core.Bool.{true}
-use mathlib.Core.Path.{◌≡◌, ap}
+use mathlib.Core.Path.{◌≡◌}
 use Rattle.compiler.specs.Compiler.{neg_unless}
 use Rattle.factory.specs.Fit.{Typed}
 use Rattle.factory.specs.Helpers.{if_false}

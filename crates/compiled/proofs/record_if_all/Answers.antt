@@ -1,5 +1,5 @@
 use mathlib.Core.Bool.{true}
-use mathlib.Core.Path.{◌≡◌, ap}
+use mathlib.Core.Path.{◌≡◌}
 use Rattle.compiler.specs.Compiler.{if_all_given, record_if_all}
 use Rattle.factory.specs.Fit.{Options}
 use Rattle.factory.proofs.Calls.{ready_wf, ready_next}

@@ -1,3 +1,4 @@
+use Rattle.nodes.specs.Builds.{nodes_of}
 use lib.ListN.{get_or}
 use mathlib.Core.Path.{◌≡◌, ◌∙◌}
 use native.Mathlib.Omega.{arith}
@@ -5,7 +6,6 @@ use Rattle.table.specs.Table.{row, table, row_of}
 use Rattle.table.proofs.Dispatch.{passed_at, build-at, passed_row, app-row, cmp_row, so_row, build-row}
 use Rattle.table.proofs.Fits.{one-term, first_kind, two-kind, widened}
 use Rattle.factory.proofs.Calls.{ready_wf}
-use Rattle.arena.specs.Cells.{used}
 use Rattle.nodes.proofs.Steps.{builds_as}
 use Rattle.dispatch.proofs.build_bitvector.Goals as goal
 

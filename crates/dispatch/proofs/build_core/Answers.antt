@@ -1,10 +1,10 @@
+use Rattle.nodes.specs.Builds.{nodes_of}
 use Rattle.std.proofs.Common.{arith}
 use mathlib.Core.Path.{◌∙◌}
 use Rattle.table.specs.Table.{row, table, row_of}
 use Rattle.table.proofs.Dispatch.{passed_at, up, same, build-at}
 use Rattle.table.proofs.Fits.{two_alike, one_bool, two_bools, choice_of}
 use Rattle.factory.proofs.Calls.{ready_wf}
-use Rattle.arena.specs.Cells.{used}
 use Rattle.nodes.proofs.Steps.{builds_as}
 use Rattle.dispatch.proofs.build_core.Goals as goal
 

@@ -1,3 +1,4 @@
+use Rattle.nodes.specs.Builds.{nodes_of}
 use Rattle.std.proofs.Common.{arith}
 use lib.ListN.{drop}
 use mathlib.Core.Path.{◌∙◌}
@@ -6,7 +7,6 @@ use Rattle.table.proofs.Dispatch.{passed_at, up, same, build-at}
 use Rattle.table.proofs.Fits.{one-term, two-terms, term-run, run-terms, all_options, first_kind, bool-first}
 use Rattle.factory.proofs.Calls.{ready_wf}
 use Rattle.factory.proofs.Guards.{options}
-use Rattle.arena.specs.Cells.{used}
 use Rattle.nodes.proofs.Steps.{builds_as}
 use Rattle.dispatch.proofs.build_helper.Goals as goal
 

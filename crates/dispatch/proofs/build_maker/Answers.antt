@@ -1,3 +1,4 @@
+use Rattle.nodes.specs.Builds.{nodes_of}
 use Rattle.std.proofs.Common.{arith}
 use mathlib.Core.List.{[], ◌∷◌}
 use mathlib.Core.Path.{refl, ◌∙◌}
@@ -5,7 +6,6 @@ use Rattle.table.specs.Table.{ty, tm, row, table, row_of}
 use Rattle.table.proofs.Dispatch.{passed_at, up, same, build-at}
 use Rattle.table.proofs.Fits.{few_pairs, few_run, one_type_lem, one-term, type-run, term-pairs, elements, small-keys}
 use Rattle.factory.proofs.Calls.{ready_wf}
-use Rattle.arena.specs.Cells.{used}
 use Rattle.nodes.proofs.Steps.{builds_as, builds_here}
 use Rattle.dispatch.proofs.build_maker.Goals as goal
 

@@ -1,8 +1,8 @@
+use Rattle.nodes.specs.Builds.{nodes_of}
 use Rattle.std.proofs.Common.{arith}
 use mathlib.Core.Path.{◌∙◌}
 use Rattle.table.specs.Table.{row, table, row_of}
 use Rattle.table.proofs.Dispatch.{up, same, build-at}
-use Rattle.arena.specs.Cells.{used}
 use Rattle.nodes.proofs.Steps.{builds_as}
 use Rattle.dispatch.proofs.build_type.Goals as goal
 
