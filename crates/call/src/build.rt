@@ -5,8 +5,8 @@ ghost use Rattle.factory.specs.Fit.{Ready};
 ghost use Rattle.table.specs.Table.{row};
 ghost use Rattle.table.specs.Forms.{Passes};
 
-use compiled::build_compiled;
 use arena::TermPos;
+use compiled::build_compiled;
 use dispatch::{build_bitvector, build_core, build_data, build_helper, build_maker, build_type};
 use nodes::{Arena, Full};
 
