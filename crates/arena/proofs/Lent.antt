@@ -12,6 +12,7 @@ use Rattle.arena.specs.Nodes.{Node, node, Nodes, mark, kind_at, fresh}
 use Rattle.arena.specs.Cells.{used, node_here, after}
 use Rattle.arena.specs.WellFormed.{fewest, good_node, Below}
 use Rattle.arena.specs.Lent.{Starts, Sure}
+use Rattle.arena.proofs.Bools.{t≢f}
 use Rattle.arena.proofs.Ext.{mark_nil, mark-cons, mark_more, node_new, node_old, kind-known}
 use Rattle.arena.proofs.Chain.{no_node}
 use Rattle.arena.proofs.View.{good_pos}
@@ -115,22 +116,27 @@ module _ {c : List ℕ} {q : ℕ} {f : List ℕ} (B : Below c q) (S : Starts (us
 
 -- ---- what is sure
 
+unset_get : (n i : ℕ) → get_or (replicate n false) i false ≡ false
+unset_get zero i = refl
+unset_get (suc n) zero = refl
+unset_get (suc n) (suc i) = unset_get n i
+
 module _ {a : Nodes} {test : ℕ → Bool} where
-  pub sure_slot : {f : List ℕ} → Sure a test f → (p : ℕ) → 1 ≤ kind_at a p → p / 4 < length f
+  pub sure_slot : {f : List Bool} → Sure a test f → (p : ℕ) → 1 ≤ kind_at a p → p / 4 < length f
   sure_slot K p h = let x = K.long in let y = room a p h in omega arith
 
-  pub sure_more : {f : List ℕ} → Sure a test f → (p : ℕ) → 1 ≤ kind_at a p → test p ≡ true → Sure a test (set f (p / 4) 1)
+  pub sure_more : {f : List Bool} → Sure a test f → (p : ℕ) → 1 ≤ kind_at a p → test p ≡ true → Sure a test (set f (p / 4) true)
   sure_more {f} K p h s = record {
     long = let x = K.long in rw length-set x;
     holds = λ q k e. go q k e (eqb (q / 4) (p / 4)) refl;
   }
     where
-      go : (q : ℕ) → 1 ≤ kind_at a q → get_or (set f (p / 4) 1) (q / 4) 0 ≡ 1 → (b : Bool) → eqb (q / 4) (p / 4) ≡ b → test q ≡ true
+      go : (q : ℕ) → 1 ≤ kind_at a q → get_or (set f (p / 4) true) (q / 4) false ≡ true → (b : Bool) → eqb (q / 4) (p / 4) ≡ b → test q ≡ true
       go q k e true i = subst (λ (x : ℕ). test x ≡ true) (sym (slot_own a q p k h (eqb-true (q / 4) (p / 4) i))) s
-      go q k e false i = K.holds q k (sym (get_or-set_other f (p / 4) (q / 4) 1 0 (eqb-false (q / 4) (p / 4) i)) ∙ e)
+      go q k e false i = K.holds q k (sym (get_or-set_other f (p / 4) (q / 4) true false (eqb-false (q / 4) (p / 4) i)) ∙ e)
 
-  pub sure_none : (n : ℕ) → mark a ≤ 4 * n → Sure a test (replicate n 0)
+  pub sure_none : (n : ℕ) → mark a ≤ 4 * n → Sure a test (replicate n false)
   sure_none n h = record {
-    long = let x = length-replicate {A = ℕ} n 0 in omega arith;
-    holds = λ p k e. let z = zeros_get n (p / 4) in absurd (omega arith);
+    long = let x = length-replicate {A = Bool} n false in omega arith;
+    holds = λ p k e. t≢f (sym e ∙ unset_get n (p / 4));
   }

@@ -76,42 +76,30 @@ module _ {c : List ℕ} {m : ℕ} (B : Below c m) (p : ℕ) (h : 1 ≤ kind_at (
   unfolding node_here
   here-at = node_eq (node_at (used c m) p) (sym read_kind) (sym read_type) (sym read_par) (sym read_members)
 
-  -- the members that are positions: every second one of a run of fields, else all
-  pub args-odds : paired (get_or c p 0) ≡ true → args (node_at (used c m) p) ≡ odds (mem_at (used c m) p)
+-- the members that are positions: every second one of a run of fields, else all
+module _ (n : Node) {k : ℕ} {r : List ℕ} {b : Bool} (e : k ≡ n.kind) (m : r ≡ n.mem) (h : b ≡ paired k) where
+  args-odds : b ≡ true → args n ≡ odds r
   unfolding positions
-  args-odds e =
-      let k : paired (kind_at (used c m) p) ≡ true = subst (λ (x : ℕ). paired x ≡ true) read_kind e in
-      rw (k, positions)
+  args-odds t = let f : paired n.kind ≡ true = ap paired (sym e) ∙ sym h ∙ t in rw (f, positions) (ap odds (sym m))
 
-  pub args-all : paired (get_or c p 0) ≡ false → args (node_at (used c m) p) ≡ mem_at (used c m) p
+  args-all : b ≡ false → args n ≡ r
   unfolding positions
-  args-all e =
-      let k : paired (kind_at (used c m) p) ≡ false = subst (λ (x : ℕ). paired x ≡ false) read_kind e in
-      rw (k, positions)
+  args-all t = let f : paired n.kind ≡ false = ap paired (sym e) ∙ sym h ∙ t in rw (f, positions) (sym m)
 
-  pub count-odds : paired (get_or c p 0) ≡ true → get_or c (p + 3) 0 / 2 ≡ length (args (node_at (used c m) p))
-  count-odds e = sym (ap length (args-odds e) ∙ odds-length (mem_at (used c m) p) ∙ ap (λ (n : ℕ). n / 2) (sym read_count))
+  pub count-odds : b ≡ true → length r / 2 ≡ length (args n)
+  count-odds t = sym (ap length (args-odds t) ∙ odds-length r)
 
-  pub count-all : paired (get_or c p 0) ≡ false → get_or c (p + 3) 0 ≡ length (args (node_at (used c m) p))
-  count-all e = sym (ap length (args-all e) ∙ sym read_count)
+  pub count-all : b ≡ false → length r ≡ length (args n)
+  count-all t = sym (ap length (args-all t))
 
-  pub at-odds : paired (get_or c p 0) ≡ true → (i : ℕ) → i < length (args (node_at (used c m) p))
-      → (p + (header + (2 * i + 1)) < length c) × (get_or c (p + (header + (2 * i + 1))) 0 ≡ get_or (args (node_at (used c m) p)) i 0)
-  at-odds e i l =
-      let f = args-odds e in
-      let l' : i < length (odds (mem_at (used c m) p)) = rw f at l in
-      let o = odds-length (mem_at (used c m) p) in
-      let n = node-fits in
-      let b : 2 * i + 1 < length (mem_at (used c m) p) = omega arith in
-      (omega arith, read_mem (2 * i + 1) b ∙ sym (ap (λ (r : List ℕ). get_or r i 0) f ∙ odds-at (mem_at (used c m) p) i l'))
+  pub at-odds : b ≡ true → (i : ℕ) → i < length (args n) → get_or r (2 * i + 1) 0 ≡ get_or (args n) i 0
+  at-odds t i l =
+      let f = args-odds t in
+      let l' : i < length (odds r) = rw f at l in
+      sym (ap (λ (s : List ℕ). get_or s i 0) f ∙ odds-at r i l')
 
-  pub at_all : paired (get_or c p 0) ≡ false → (i : ℕ) → i < length (args (node_at (used c m) p))
-      → (p + (header + i) < length c) × (get_or c (p + (header + i)) 0 ≡ get_or (args (node_at (used c m) p)) i 0)
-  at_all z i l =
-      let e = args-all z in
-      let l' : i < length (mem_at (used c m) p) = rw e at l in
-      let n = node-fits in
-      (omega arith, read_mem i l' ∙ sym (ap (λ (r : List ℕ). get_or r i 0) e))
+  pub at_all : b ≡ false → (i : ℕ) → get_or r i 0 ≡ get_or (args n) i 0
+  at_all t i = ap (λ (s : List ℕ). get_or s i 0) (sym (args-all t))
 
 -- ---- where no node starts
 

@@ -1,35 +1,27 @@
--- A walk over the cells: what the rule says of the kind that stands at p decides, or all members do.
-use mathlib.Core.Path.{◌≡◌, sym, ap, ◌∙◌}
+-- A walk over the nodes: what the rule says of the kind that stands at p decides, or all members do.
+use mathlib.Core.Path.{◌≡◌, ap, ◌∙◌}
 use Prim.Native.Nat.{ℕ, ◌≤◌, ◌<◌}
 use native.Mathlib.Omega.{arith}
 use mathlib.Core.Bool.{true, false}
-use mathlib.Core.List.{List}
-use lib.ListN.{get_or}
 use borrow.Author.Tests.{ne_eqb, le-leb, lt-leb}
 use Rattle.arena.specs.Lists.{all}
-use Rattle.arena.specs.Nodes.{node_at, kind_at, args}
-use Rattle.arena.specs.Cells.{used}
+use Rattle.arena.specs.Nodes.{Nodes, node_at, kind_at, args}
 use Rattle.arena.specs.Walks.{Verdict, pass, fail, ask, said, ruled, walked, lit_rule, free_rule}
-use Rattle.arena.specs.WellFormed.{Below}
-use Rattle.arena.proofs.Chain.{walked_at}
-use Rattle.arena.proofs.Formed.{wf}
-use Rattle.arena.proofs.Read.{read_kind}
+use Rattle.arena.proofs.Chain.{Chain, walked_at}
 
-module _ (r : ℕ → Verdict) {c : List ℕ} {m : ℕ} (B : Below c m) (p : ℕ) (h : 1 ≤ kind_at (used c m) p) where
-  pub walk_said : walked r (used c m) p ≡ said (r (get_or c p 0)) (all (walked r (used c m)) (args (node_at (used c m) p)))
+module _ (r : ℕ → Verdict) {a : Nodes} (c : Chain a) (p : ℕ) (h : 1 ≤ kind_at a p) where
+  walk_said : (v : Verdict) → r (kind_at a p) ≡ v → walked r a p ≡ said v (all (walked r a) (args (node_at a p)))
   unfolding ruled
-  walk_said =
-      walked_at r (wf B).chain p h
-      ∙ ap (λ (k : ℕ). said (r k) (all (walked r (used c m)) (args (node_at (used c m) p)))) (sym (read_kind B p h))
+  walk_said v e = walked_at r c p h ∙ ap (λ v. said v (all (walked r a) (args (node_at a p)))) e
 
-  pub walk_pass : r (get_or c p 0) ≡ pass → walked r (used c m) p ≡ true
-  walk_pass e = walk_said ∙ ap (λ (v : Verdict). said v (all (walked r (used c m)) (args (node_at (used c m) p)))) e
+  pub walk_pass : r (kind_at a p) ≡ pass → walked r a p ≡ true
+  walk_pass e = walk_said pass e
 
-  pub walk_fail : r (get_or c p 0) ≡ fail → walked r (used c m) p ≡ false
-  walk_fail e = walk_said ∙ ap (λ (v : Verdict). said v (all (walked r (used c m)) (args (node_at (used c m) p)))) e
+  pub walk_fail : r (kind_at a p) ≡ fail → walked r a p ≡ false
+  walk_fail e = walk_said fail e
 
-  pub walk_ask : r (get_or c p 0) ≡ ask → walked r (used c m) p ≡ all (walked r (used c m)) (args (node_at (used c m) p))
-  walk_ask e = walk_said ∙ ap (λ (v : Verdict). said v (all (walked r (used c m)) (args (node_at (used c m) p)))) e
+  pub walk_ask : r (kind_at a p) ≡ ask → walked r a p ≡ all (walked r a) (args (node_at a p))
+  walk_ask e = walk_said ask e
 
 -- ---- the two rules
 

@@ -1,5 +1,5 @@
 -- What arrays lent to a walk say of an arena's nodes. Nodes are four cells apart or more, so that entry p / 4 is the own entry of a node at p.
-use Rattle.std.specs.Prelude.{◌≡◌, Bool, true, List, ℕ, ◌+◌, ◌*◌, ◌/◌, ◌%◌, ◌≤◌, length, get_or}
+use Rattle.std.specs.Prelude.{◌≡◌, Bool, true, false, List, ℕ, ◌+◌, ◌*◌, ◌/◌, ◌%◌, ◌≤◌, length, get_or}
 use Rattle.arena.specs.Nodes.{Nodes, mark, kind_at}
 use Rattle.arena.specs.Cells.{used, after}
 use Rattle.arena.specs.WellFormed.{Below}
@@ -16,7 +16,7 @@ pub record Ready (c : List ℕ) (q : ℕ) (f : List ℕ) : Type 0 where
   pub starts : Starts (used c q) f
   pub here : after c q ≤ length c
 
--- what is sure: a node whose entry is 1 passes the test
-pub record Sure (a : Nodes) (test : ℕ → Bool) (f : List ℕ) : Type 0 where
+-- what is sure: a node whose entry is true passes the test
+pub record Sure (a : Nodes) (test : ℕ → Bool) (f : List Bool) : Type 0 where
   pub long : mark a ≤ 4 * length f
-  pub holds : (p : ℕ) → 1 ≤ kind_at a p → get_or f (p / 4) 0 ≡ 1 → test p ≡ true
+  pub holds : (p : ℕ) → 1 ≤ kind_at a p → get_or f (p / 4) false ≡ true → test p ≡ true

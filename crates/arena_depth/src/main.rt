@@ -5,7 +5,7 @@
 
 ghost use Rattle.std.specs.Prelude.{◌+◌, ◌≤◌, ◌<◌};
 
-use arena::cells::{is_term, is_type};
+use arena::cells::View;
 use std::io;
 use walks::{has_fields, is_literal, set_free};
 use wellformed::is_formed;
@@ -85,11 +85,12 @@ fn answer(cells: &[u64], mark: usize, at: usize) -> u8 {
     if !is_formed(cells, mark as u64) {
         return b'!';
     }
-    if is_term(cells, mark, at as u64) {
-        return letter(is_literal(cells, mark, at));
+    let nodes = View { cells, mark };
+    if nodes.is_term(at as u64) {
+        return letter(is_literal(&nodes, at));
     }
-    if is_type(cells, mark, at as u64) {
-        return letter(!set_free(cells, mark, at));
+    if nodes.is_type(at as u64) {
+        return letter(!set_free(&nodes, at));
     }
     b'?'
 }

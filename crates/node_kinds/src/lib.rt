@@ -11,6 +11,7 @@ ghost use Rattle.arena.specs.WellFormed.{field_run, is_type, kind_is, type_is, p
 ghost use Rattle.arena.specs.Lent.{Ready};
 ghost use Rattle.node_tests.specs.Decide.{ElemType, maker_on, core_on, bv_on, data_on};
 
+use arena::cells::View;
 use node_tests::Want;
 use node_tests::looks::{
     all_suit, elem_at, fields_typed, kind_at, members_at, par_at, suits, type_at,
@@ -127,7 +128,8 @@ fn set_type_ok(cells: &[u64], q: usize, p: u64, run: &[u64]) -> bool
     if run.len() != 1 {
         return false;
     }
-    all3(run.len() == 1, p == 0, set_free(cells, q, run[0] as usize))
+    let nodes = View { cells, mark: q };
+    all3(run.len() == 1, p == 0, set_free(&nodes, run[0] as usize))
 }
 
 fn type_ok(cells: &[u64], q: usize, k: u64, p: u64, run: &[u64]) -> bool

@@ -1,2 +1,6 @@
 -- The laws of the tests on runs.
 pub mod Turns
+pub mod Pairs
+pub mod Given
+pub mod Gives
+pub mod Same

@@ -3,11 +3,9 @@ use mathlib.Core.Path.{◌≡◌, ap, ◌∙◌}
 use Prim.Native.Nat.{ℕ, zero, suc, ◌+◌, ◌-◌, ◌≤◌, ◌<◌}
 use native.Mathlib.Omega.{arith}
 use mathlib.Core.Bool.{Bool, true, false}
-use mathlib.Core.Option.{none, some}
 use mathlib.Core.List.{List}
 use lib.ListN.{length, drop, get_or}
-use lib.Dec.{eqb}
-use Rattle.arena.specs.Lists.{all, rising, field, holds_field}
+use Rattle.arena.specs.Lists.{all, rising}
 use Rattle.arena.proofs.Loops.{all_hit, all_miss, all_end, odd_hit, odd_miss, odd_end, rise_hit, rise_miss, rise_end, key_hit, key_miss, key_end}
 use Rattle.runs.specs.Strides.{held, heads}
 
@@ -52,13 +50,3 @@ module _ (l : List ℕ) (i : ℕ) where
 
   pub heads_end : (s : ℕ) → 1 ≤ s → s ≤ 2 → length l ≤ i + s → rising (heads s (drop i l)) ≡ true
   heads_end = by_step (λ s. length l ≤ i + s → rising (heads s (drop i l)) ≡ true) (rise_end l i) (key_end l i)
-
--- ---- fields
-
-pub holds_some : (r : List ℕ) (k t p : ℕ) → field r k ≡ some p → eqb p t ≡ holds_field r k t
-unfolding holds_field
-holds_some r k t p e = rw (e, holds_field)
-
-pub holds_none : (r : List ℕ) (k t : ℕ) → field r k ≡ none → false ≡ holds_field r k t
-unfolding holds_field
-holds_none r k t e = rw (e, holds_field)

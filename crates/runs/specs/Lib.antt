@@ -1,1 +1,2 @@
 pub mod Strides
+pub mod Fields

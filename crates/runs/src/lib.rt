@@ -3,39 +3,16 @@
 #![tactic(auto)]
 
 ghost use Rattle.std.specs.Prelude.{◌≡◌, [], ◌∷◌, ◌≤◌, length, get_or, drop, eqb};
-ghost use Rattle.arena.specs.Lists.{every, all, rising, evens, same_list, holds_field};
+ghost use Rattle.arena.specs.Lists.{every, all, rising, evens, same_list, field, holds_field};
 ghost use Rattle.arena.specs.WellFormed.{small, field_run};
+ghost use Rattle.runs.specs.Fields.{given};
 ghost use Rattle.runs.specs.Strides.{heads};
-
-pub fn all2(a: bool, b: bool) -> bool
-    ensures { result ≡ every (a ∷ b ∷ []) }
-{
-    if a { b } else { false }
-}
-
-pub fn all3(a: bool, b: bool, c: bool) -> bool
-    ensures { result ≡ every (a ∷ b ∷ c ∷ []) }
-{
-    if a { all2(b, c) } else { false }
-}
-
-pub fn all4(a: bool, b: bool, c: bool, d: bool) -> bool
-    ensures { result ≡ every (a ∷ b ∷ c ∷ d ∷ []) }
-{
-    if a { all3(b, c, d) } else { false }
-}
-
-pub fn all5(a: bool, b: bool, c: bool, d: bool, e: bool) -> bool
-    ensures { result ≡ every (a ∷ b ∷ c ∷ d ∷ e ∷ []) }
-{
-    if a { all4(b, c, d, e) } else { false }
-}
 
 // Member i, or 0 past the end.
 pub fn nth(run: &[u64], i: usize) -> u64
     ensures { result ≡ get_or run.now i 0 }
 {
-    if i < run.len() { run[i] } else { 0 }
+    run.get(i).copied().unwrap_or(0)
 }
 
 // Whether every number from m on is 0.
@@ -43,14 +20,7 @@ pub fn zeros_from(run: &[u64], m: usize) -> bool
     requires { m ≤ length run.now }
     ensures { result ≡ all (λ x. eqb x 0) (drop m run.now) }
 {
-    let mut i = m;
-    while i < run.len() {
-        if run[i] != 0 {
-            return false;
-        }
-        i += 1;
-    }
-    true
+    run[m..].iter().all(|x| *x == 0)
 }
 
 // Whether every number, or with step 2 every attribute, is above the one before.
@@ -58,67 +28,46 @@ pub fn rises(run: &[u64], step: usize) -> bool
     requires { (1 ≤ step) × (step ≤ 2) }
     ensures { result ≡ rising (heads step run.now) }
 {
-    let mut i: usize = 0;
-    while i + step < run.len() {
-        if run[i] >= run[i + step] {
-            return false;
-        }
-        i += step;
-    }
-    true
+    run.iter().step_by(step).is_sorted_by(|a, b| a < b)
 }
 
 pub fn keys_small(run: &[u64]) -> bool
     ensures { result ≡ all small (evens run.now) }
 {
-    let mut i: usize = 0;
-    while i < run.len() {
-        if run[i] >= 4294967296 {
-            return false;
-        }
-        i += 2;
-    }
-    true
+    run.iter().step_by(2).all(|k| *k < 4294967296)
 }
 
 // Whole pairs, at most 64, with rising small attributes.
+#[tactic(auto, unfolding(arena::specs::Lists::every, arena::specs::WellFormed::field_run))]
 pub fn field_run(run: &[u64]) -> bool
     ensures { result ≡ field_run run.now }
 {
-    all4(
-        run.len() % 2 == 0,
-        run.len() <= 128,
-        rises(run, 2),
-        keys_small(run),
-    )
+    run.len() % 2 == 0 && run.len() <= 128 && rises(run, 2) && keys_small(run)
 }
 
+#[tactic(auto, using(crate::proofs::Same::pointwise_same))]
 pub fn same_run(a: &[u64], b: &[u64]) -> bool
     ensures { result ≡ same_list a.now b.now }
 {
-    if a.len() != b.len() {
-        return false;
-    }
-    let mut i: usize = 0;
-    while i < a.len() {
-        if a[i] != b[i] {
-            return false;
+    a == b
+}
+
+// What the attribute k holds.
+pub fn field(run: &[u64], k: u64) -> Option<u64>
+    ensures { result ≡ given (field run.now k) }
+{
+    for pair in run.chunks_exact(2) {
+        if pair[0] == k {
+            return Some(pair[1]);
         }
-        i += 1;
     }
-    true
+    None
 }
 
 // Whether the attribute k holds t.
+#[tactic(auto, using(crate::proofs::Given::given_holds))]
 pub fn holds_field(run: &[u64], k: u64, t: u64) -> bool
     ensures { result ≡ holds_field run.now k t }
 {
-    let mut i: usize = 0;
-    while i + 1 < run.len() {
-        if run[i] == k {
-            return run[i + 1] == t;
-        }
-        i += 2;
-    }
-    false
+    field(run, k) == Some(t)
 }

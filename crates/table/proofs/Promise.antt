@@ -10,12 +10,10 @@ use Rattle.arena.specs.Cells.{used, padded}
 use Rattle.arena.specs.WellFormed.{formed, IsArena}
 use Rattle.arena.proofs.Formed.{formed-arena}
 use Rattle.instruction.specs.Instruction.{Instr}
-use Rattle.table.specs.Call.{ok, build, Lent, lent, call_on}
+use Rattle.table.specs.Call.{ok, refused, build, Lent, lent, call_on}
 use Rattle.table.specs.Senses.{Sense, senses, sense_of}
-use Rattle.table.specs.Answers.{reply_of, mark_after, Answered}
+use Rattle.table.specs.Answers.{Answer, found, reply_of, mark_after, Answered}
 use Rattle.table.specs.Promises.{refusals, applies, Smallest, Exact, After, Meant, TypeBuilt}
-use Rattle.table.specs.declared.Answer.{Answer}
-use Rattle.table.specs.declared.Answer.TheVariants.{Accepted, Refused}
 use Rattle.table.proofs.Demand1.{demand_1, differ}
 use Rattle.table.proofs.Entry.{not_formed}
 use Rattle.table.proofs.Kept.{kept, demand_3_cells, demand_types_cells}
@@ -24,16 +22,16 @@ use Rattle.table.proofs.Once.{reply_once}
 -- r is answered and the cells c' are left, on the cells c and the mark m
 pub record Promise (c : List ℕ) (m : ℕ) (i : Instr) (r : Answer) (c' : List ℕ) : Type 0 where
   -- n is given exactly when it is the smallest number that applies, and changes no cell
-  pub given : (n : ℕ) → r ≡ Refused n → Smallest n (refusals c m i)
-  pub gives : (n : ℕ) → Smallest n (refusals c m i) → r ≡ Refused n
-  pub unchanged : (n : ℕ) → r ≡ Refused n → c' ≡ c
+  pub given : (n : ℕ) → reply_of r ≡ refused n → Smallest n (refusals c m i)
+  pub gives : (n : ℕ) → Smallest n (refusals c m i) → reply_of r ≡ refused n
+  pub unchanged : (n : ℕ) → reply_of r ≡ refused n → c' ≡ c
   -- where none applies, what is built
   pub accepted : ((n : ℕ) → applies n (refusals c m i) ≡ false)
-      → let o = build (used c m) i in (r ≡ Accepted o.at (mark o.arena)) × (c' ≡ padded (length c) o.arena)
+      → let o = build (used c m) i in (r ≡ found o.at (mark o.arena)) × (c' ≡ padded (length c) o.arena)
   -- an accepted call leaves an arena of as many cells, in which the node built stands below the mark
-  pub arena : (p n : ℕ) → r ≡ Accepted p n → IsArena c m × (IsArena c' n × (length c' ≡ length c))
-  pub meant : (p n : ℕ) → r ≡ Accepted p n → 10 ≤ i.op → (s : Sense) → sense_of senses i.op ≡ some s → Meant (used c m) i s (out (used c' n) p)
-  pub types : (p n : ℕ) → r ≡ Accepted p n → i.op < 10 → TypeBuilt (used c m) (out (used c' n) p)
+  pub arena : (p n : ℕ) → r ≡ found p n → IsArena c m × (IsArena c' n × (length c' ≡ length c))
+  pub meant : (p n : ℕ) → r ≡ found p n → 10 ≤ i.op → (s : Sense) → sense_of senses i.op ≡ some s → Meant (used c m) i s (out (used c' n) p)
+  pub types : (p n : ℕ) → r ≡ found p n → i.op < 10 → TypeBuilt (used c m) (out (used c' n) p)
 
 -- an arena that is not well formed is refused
 accepted-formed : (c : List ℕ) (m : ℕ) (i : Instr) (p n : ℕ) → (call_on c m i).reply ≡ ok p n → IsArena c m
@@ -47,10 +45,10 @@ accepted-formed c m i p n z = go (formed c m) refl
 pub promised : (c : List ℕ) (m : ℕ) (i : Instr) {r : Answer} {c' : List ℕ} → (i.count ≤ 257 → length i.operands ≡ i.count) → Answered c m i r c' → Promise c m i r c'
 promised c m i {r} {c'} h e =
     record {
-      given = λ n q. E.given n (says q);
-      gives = λ n s. reply_once r (Refused n) (e.0 ∙ E.gives n s);
-      unchanged = λ n q. e.1 ∙ E.unchanged n (says q);
-      accepted = λ q. let a = E.accepted q in (reply_once r (Accepted _ _) (e.0 ∙ ap (λ (l : Lent). l.reply) a), e.1 ∙ ap (λ (l : Lent). l.cells) a);
+      given = λ n q. E.given n (sym e.0 ∙ q);
+      gives = λ n s. e.0 ∙ E.gives n s;
+      unchanged = λ n q. e.1 ∙ E.unchanged n (sym e.0 ∙ q);
+      accepted = λ q. let a = E.accepted q in (reply_once r (found _ _) (e.0 ∙ ap (λ (l : Lent). l.reply) a), e.1 ∙ ap (λ (l : Lent). l.cells) a);
       arena = λ p n q.
           let A = accepted-formed c m i p n (says q) in
           let K = subst (After c m) (λ j. lent (sym e.0 j) (sym e.1 j)) (kept c m i h A) in

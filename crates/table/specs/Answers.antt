@@ -1,14 +1,22 @@
 -- What an answer stands for, what a call promises of it, and the mark that its caller then keeps.
-use Rattle.std.specs.Prelude.{ℕ, ◌≡◌, List}
+use Rattle.std.specs.Prelude.{ℕ, ◌≡◌, List, Result, Ok, Err}
 use Rattle.instruction.specs.Instruction.{Instr}
 use Rattle.table.specs.Call.{Reply, ok, refused, call_on}
-use Rattle.table.specs.declared.Answer.{Answer}
-use Rattle.table.specs.declared.Answer.TheVariants.{Accepted, Refused}
+use Rattle.table.specs.Refusals.{number_of}
+use Rattle.table.specs.declared.Accepted.{Accepted}
+use Rattle.table.specs.declared.Refusal.{Refusal}
+
+-- what a call answers
+abbrev pub Answer : Type 0
+Answer = Result Accepted Refusal
+
+abbrev pub found : ℕ → ℕ → Answer
+found p m = Ok (record { position = p; mark = m })
 
 -- an accepted call's position and mark, or a refusal's number
 abbrev pub reply_of : Answer → Reply
-reply_of (Accepted p m) = ok p m
-reply_of (Refused n) = refused n
+reply_of (Ok a) = ok a.position a.mark
+reply_of (Err e) = refused (number_of e)
 
 -- on the cells c and the mark m
 abbrev pub Answered : List ℕ → ℕ → Instr → Answer → List ℕ → Type 0

@@ -2,6 +2,7 @@
 pub mod Table
 pub mod Senses
 pub mod Call
+pub mod Refusals
 pub mod Answers
 pub mod Promises
 pub mod Forms

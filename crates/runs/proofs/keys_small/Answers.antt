@@ -1,21 +1,13 @@
-use mathlib.Core.Path.{sym, ◌∙◌}
-use native.Mathlib.Omega.{arith}
-use borrow.Author.Tests.{lt-ltb, le-ltb}
+use Rattle.std.proofs.Common.{rules, tests, ap, ◌∙◌, arith}
+use Rattle.std.specs.Slice.Iter.{iter_rest}
+use Rattle.std.proofs.iter.runs.Made.{seen}
 use Rattle.arena.specs.WellFormed.{small}
-use Rattle.arena.proofs.Loops.{even_hit, even_miss, even_end}
+use Rattle.runs.proofs.Gives.{gives_slice, gives_step, all_gives}
 use Rattle.runs.proofs.keys_small.Goals as goal
-
-pub returns-then-run-i-ge4294967296 : goal.returns-then-run-i-ge4294967296
-returns-then-run-i-ge4294967296 c =
-    let l = c.loop-i in
-    sym (l.invariant.0 ∙ even_miss small _ l.i (omega arith) (le-ltb _ _ c.if-run-i-ge4294967296.true))
-
-pub loop-i-preserved : goal.loop-i-preserved
-loop-i-preserved c =
-    let l = c.loop-i in
-    (l.invariant.0 ∙ even_hit small _ l.i (omega arith) (lt-ltb _ _ c.if-run-i-ge4294967296.false), omega arith)
 
 pub returns : goal.returns
 returns c =
-    let l = c.loop-i in
-    sym (l.invariant.0 ∙ even_end small _ l.i (omega arith))
+    let r = c.all.ensures.runs in
+    let s = c.step_by.ensures.runs r.0 (seen _) r.1 in
+    let all = gives_slice s.0 _ (c.iter.ensures.runs s.0 (seen _)) (ap iter_rest s.1 ∙ c.iter.ensures.rest) in
+    all_gives r.0 (λ x. x.now) (gives_step r.0 s.0 _ _ 2 (omega arith) (omega arith) s.2 all) small _ _ (λ x b q k. search (rules, tests)) _ r.2

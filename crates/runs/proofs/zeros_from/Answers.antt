@@ -1,21 +1,12 @@
-use mathlib.Core.Path.{sym, ◌∙◌}
-use native.Mathlib.Omega.{arith}
-use lib.Dec.{eqb}
-use borrow.Author.Tests.{eq-eqb, ne_eqb}
-use Rattle.arena.proofs.Loops.{all_hit, all_miss, all_end}
+use Rattle.std.proofs.Common.{eqb, rules, tests, ap, ◌∙◌, arith}
+use Rattle.std.proofs.lemmas.Slice.{between_to_end}
+use Rattle.std.specs.Slice.Iter.{iter_rest}
+use Rattle.std.proofs.iter.runs.Made.{seen}
+use Rattle.runs.proofs.Gives.{gives_slice, all_gives}
 use Rattle.runs.proofs.zeros_from.Goals as goal
-
-pub returns-then-run-i-ne0 : goal.returns-then-run-i-ne0
-returns-then-run-i-ne0 c =
-    let l = c.loop-i in
-    sym (l.invariant.0 ∙ all_miss (λ x. eqb x 0) _ l.i (omega arith) (ne_eqb _ _ c.if-run-i-ne0.true))
-
-pub loop-i-preserved : goal.loop-i-preserved
-loop-i-preserved c =
-    let l = c.loop-i in
-    (l.invariant.0 ∙ all_hit (λ x. eqb x 0) _ l.i (omega arith) (eq-eqb _ _ c.if-run-i-ne0.false), omega arith)
 
 pub returns : goal.returns
 returns c =
-    let l = c.loop-i in
-    sym (l.invariant.0 ∙ all_end (λ x. eqb x 0) _ l.i (omega arith))
+    let r = c.all.ensures.runs in
+    let tail = ap iter_rest r.1 ∙ c.iter.ensures.rest ∙ between_to_end _ c.args.m _ (omega arith) in
+    all_gives r.0 (λ x. x.now) (gives_slice r.0 _ (c.iter.ensures.runs r.0 (seen _)) tail) (λ x. eqb x 0) _ _ (λ x b q k. search (rules, tests)) _ r.2

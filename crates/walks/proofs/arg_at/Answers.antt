@@ -1,59 +1,24 @@
-use Rattle.arena.proofs.Visit.{here}
-use Rattle.arena.proofs.Read.{at-odds, at_all}
+use mathlib.Core.Path.{refl, ◌∙◌}
 use native.Mathlib.Omega.{arith}
-use mathlib.Core.Path.{sym, ◌∙◌}
+use Rattle.arena.specs.Nodes.{node_at}
+use Rattle.arena.specs.View.{nodes_of}
+use Rattle.arena.proofs.Read.{node-fits, count-odds, at-odds, at_all}
 use Rattle.walks.proofs.arg_at.Goals as goal
 
-pub offset_bounds-cells-at : goal.offset_bounds-cells-at
-offset_bounds-cells-at c = omega (arith, here c.requires.stands)
+pub overflow_mul-i : goal.overflow_mul-i
+overflow_mul-i c =
+    let n = count-odds (node_at (nodes_of c.args.nodes.now) c.args.at) c.kind_of.ensures refl c.has_fields.ensures c.if-has_fields.true in
+    omega (arith, c.requires.i_in_bounds, node-fits c.args.nodes.now.below c.args.at c.requires.stands, c.args.nodes.now.below.short)
 
-pub bounds-cells-at : goal.bounds-cells-at
-bounds-cells-at c = omega (arith, here c.requires.stands)
-
-pub overflow_mul-result : goal.overflow_mul-result
-overflow_mul-result c =
-    omega (arith, (at-odds c.requires.stands.below c.args.at c.requires.stands.node (sym c.has_fields.ensures ∙ c.if-has_fields.true) c.args.i c.requires.i_in_bounds).0)
-
-pub overflow_add-result : goal.overflow_add-result
-overflow_add-result c =
-    omega (arith, (at-odds c.requires.stands.below c.args.at c.requires.stands.node (sym c.has_fields.ensures ∙ c.if-has_fields.true) c.args.i c.requires.i_in_bounds).0)
-
-pub overflow_add-result-then-has_fields : goal.overflow_add-result-then-has_fields
-overflow_add-result-then-has_fields c =
-    omega (arith, (at-odds c.requires.stands.below c.args.at c.requires.stands.node (sym c.has_fields.ensures ∙ c.if-has_fields.true) c.args.i c.requires.i_in_bounds).0)
-
-pub overflow_add-result-then-has_fields-2 : goal.overflow_add-result-then-has_fields-2
-overflow_add-result-then-has_fields-2 c =
-    omega (arith, (at-odds c.requires.stands.below c.args.at c.requires.stands.node (sym c.has_fields.ensures ∙ c.if-has_fields.true) c.args.i c.requires.i_in_bounds).0)
-
-pub offset_bounds-cells-at-then-has_fields : goal.offset_bounds-cells-at-then-has_fields
-offset_bounds-cells-at-then-has_fields c =
-    omega (arith, (at-odds c.requires.stands.below c.args.at c.requires.stands.node (sym c.has_fields.ensures ∙ c.if-has_fields.true) c.args.i c.requires.i_in_bounds).0)
-
-pub bounds-cells-at-then-has_fields : goal.bounds-cells-at-then-has_fields
-bounds-cells-at-then-has_fields c =
-    (at-odds c.requires.stands.below c.args.at c.requires.stands.node (sym c.has_fields.ensures ∙ c.if-has_fields.true) c.args.i c.requires.i_in_bounds).0
+pub overflow_add-i : goal.overflow_add-i
+overflow_add-i c =
+    let n = count-odds (node_at (nodes_of c.args.nodes.now) c.args.at) c.kind_of.ensures refl c.has_fields.ensures c.if-has_fields.true in
+    omega (arith, c.requires.i_in_bounds, node-fits c.args.nodes.now.below c.args.at c.requires.stands, c.args.nodes.now.below.short)
 
 pub returns-then-has_fields : goal.returns-then-has_fields
 returns-then-has_fields c =
-    (at-odds c.requires.stands.below c.args.at c.requires.stands.node (sym c.has_fields.ensures ∙ c.if-has_fields.true) c.args.i c.requires.i_in_bounds).1
-
-pub overflow_add-result-2 : goal.overflow_add-result-2
-overflow_add-result-2 c =
-    omega (arith, (at_all c.requires.stands.below c.args.at c.requires.stands.node (sym c.has_fields.ensures ∙ c.if-has_fields.false) c.args.i c.requires.i_in_bounds).0)
-
-pub overflow_add-result-3 : goal.overflow_add-result-3
-overflow_add-result-3 c =
-    omega (arith, (at_all c.requires.stands.below c.args.at c.requires.stands.node (sym c.has_fields.ensures ∙ c.if-has_fields.false) c.args.i c.requires.i_in_bounds).0)
-
-pub offset_bounds-cells-at-2 : goal.offset_bounds-cells-at-2
-offset_bounds-cells-at-2 c =
-    omega (arith, (at_all c.requires.stands.below c.args.at c.requires.stands.node (sym c.has_fields.ensures ∙ c.if-has_fields.false) c.args.i c.requires.i_in_bounds).0)
-
-pub bounds-cells-at-2 : goal.bounds-cells-at-2
-bounds-cells-at-2 c =
-    (at_all c.requires.stands.below c.args.at c.requires.stands.node (sym c.has_fields.ensures ∙ c.if-has_fields.false) c.args.i c.requires.i_in_bounds).0
+    c.arg_of.ensures ∙ at-odds (node_at (nodes_of c.args.nodes.now) c.args.at) c.kind_of.ensures refl c.has_fields.ensures c.if-has_fields.true c.args.i c.requires.i_in_bounds
 
 pub returns : goal.returns
 returns c =
-    (at_all c.requires.stands.below c.args.at c.requires.stands.node (sym c.has_fields.ensures ∙ c.if-has_fields.false) c.args.i c.requires.i_in_bounds).1
+    c.arg_of-2.ensures ∙ at_all (node_at (nodes_of c.args.nodes.now) c.args.at) c.kind_of.ensures refl c.has_fields.ensures c.if-has_fields.false c.args.i
