@@ -1,52 +1,48 @@
 // The whole dispatcher: every operation by number.
 ghost use Rattle.std.specs.Prelude.{◌≤◌};
-ghost use Rattle.arena.specs.Did.{Did};
-ghost use Rattle.nodes.specs.Replies.{term_reply, node_reply};
+ghost use Rattle.nodes.specs.Builds.{Builds, term_reply, node_reply};
 ghost use Rattle.factory.specs.Fit.{Ready};
 ghost use Rattle.table.specs.Table.{row};
 ghost use Rattle.table.specs.Forms.{Passes};
 
+use arena::TermPos;
 use compiled::build_compiled;
 use dispatch::{build_bitvector, build_core, build_data, build_helper, build_maker, build_type};
-use nodes::{Cursor, NodeStep, TermStep, TypeStep};
+use nodes::{Arena, Full};
 
 // A term: 10 to 75.
-fn build_term(cells: &mut [u64], cursor: Cursor, op: u64, par: u64, xs: &[u64]) -> TermStep
-    requires ready { Ready (λ a. Passes a op par xs.now) cells.old cursor.mark }
+fn build_term(arena: &mut Arena<'_>, op: u64, par: u64, xs: &[u64]) -> Result<TermPos, Full>
+    requires ready { Ready (λ a. Passes a op par xs.now) arena.old }
     requires le_op { 10 ≤ op }
-    ensures { Did (λ a. (row op).build a par xs.now) cells.old cursor.mark (term_reply result) cells.new }
+    ensures { Builds (λ a. (row op).build a par xs.now) arena.old (term_reply result) arena.new }
 {
     if op <= 16 {
-        return build_maker(cells, cursor, op, par, xs);
+        return build_maker(arena, op, par, xs);
     }
     if op <= 26 {
-        return build_core(cells, cursor, op, par, xs);
+        return build_core(arena, op, par, xs);
     }
     if op <= 49 {
-        return build_bitvector(cells, cursor, op, par, xs);
+        return build_bitvector(arena, op, par, xs);
     }
     if op <= 56 {
-        return build_data(cells, cursor, op, par, xs);
+        return build_data(arena, op, par, xs);
     }
     if op <= 66 {
-        return build_helper(cells, cursor, op, par, xs);
+        return build_helper(arena, op, par, xs);
     }
-    build_compiled(cells, cursor, op, par, xs)
+    build_compiled(arena, op, par, xs)
 }
 
 // What the operation builds, a type or a term.
-pub fn build(cells: &mut [u64], cursor: Cursor, op: u64, par: u64, xs: &[u64]) -> NodeStep
-    requires { Ready (λ a. Passes a op par xs.now) cells.old cursor.mark }
-    ensures { Did (λ a. (row op).build a par xs.now) cells.old cursor.mark (node_reply result) cells.new }
+pub fn build(arena: &mut Arena<'_>, op: u64, par: u64, xs: &[u64]) -> Result<u64, Full>
+    requires { Ready (λ a. Passes a op par xs.now) arena.old }
+    ensures { Builds (λ a. (row op).build a par xs.now) arena.old (node_reply result) arena.new }
 {
     if op < 10 {
-        return match build_type(cells, cursor, op, par, xs) {
-            TypeStep::At(next, t) => NodeStep::At(next, t.0),
-            TypeStep::Full => NodeStep::Full,
-        };
+        let t = build_type(arena, op, par, xs)?;
+        return Ok(t.0);
     }
-    match build_term(cells, cursor, op, par, xs) {
-        TermStep::At(next, t) => NodeStep::At(next, t.0),
-        TermStep::Full => NodeStep::Full,
-    }
+    let t = build_term(arena, op, par, xs)?;
+    Ok(t.0)
 }

@@ -5,7 +5,6 @@
 ghost use Rattle.std.specs.Prelude.{◌≡◌, min};
 ghost use Rattle.arena.specs.Cells.{used};
 ghost use Rattle.arena.specs.WellFormed.{IsArena};
-ghost use Rattle.factory.specs.Fit.{Ready};
 ghost use Rattle.instruction.specs.Instruction.{instr_of};
 ghost use Rattle.table.specs.Forms.{instr, listed, Passes, Held};
 ghost use Rattle.table.specs.Answers.{Answered};
@@ -13,7 +12,7 @@ ghost use Rattle.table.specs.Answers.{Answered};
 use arena::cells::clear_back;
 use build::build;
 use instruction::Instruction;
-use nodes::{Cursor, NodeStep};
+use nodes::{Arena, Full};
 use refusals::refusal;
 use table::Answer;
 use wellformed::is_formed;
@@ -22,13 +21,15 @@ mod build;
 
 // An instruction that no test refuses: what it builds, or 9.
 fn built(cells: &mut [u64], mark: usize, op: u64, par: u64, xs: &[u64]) -> Answer
-    requires { Ready (λ a. Passes a op par xs.now) cells.old mark }
+    requires arena { IsArena cells.old mark }
+    requires passes { Passes (used cells.old mark) op par xs.now }
     ensures { Answered cells.old mark (listed op par xs.now) result cells.new }
 {
-    match build(cells, Cursor { mark }, op, par, xs) {
-        NodeStep::At(next, p) => Answer::Accepted(p, next.mark),
-        NodeStep::Full => {
-            clear_back(cells, mark);
+    let mut arena = Arena { cells, mark };
+    match build(&mut arena, op, par, xs) {
+        Ok(position) => Answer::Accepted(position, arena.mark),
+        Err(Full) => {
+            clear_back(arena.cells, mark);
             Answer::Refused(9)
         }
     }

@@ -1,10 +1,11 @@
 -- What a builder asks of the lent cells and its operands: an arena, and operands of the types that document 01 names.
 use Rattle.std.specs.Prelude.{◌≡◌, true, List, [], ◌∷◌, ℕ}
 use Rattle.arena.specs.Nodes.{Nodes, kind_at, type_at}
-use Rattle.arena.specs.Cells.{used}
-use Rattle.arena.specs.WellFormed.{is_term, IsArena}
+use Rattle.arena.specs.WellFormed.{is_term}
 use Rattle.arena.specs.Values.{Ty}
 use Rattle.arena.specs.Meaning.{ty_at}
+use Rattle.nodes.specs.declared.Arena.{Arena}
+use Rattle.nodes.specs.Builds.{nodes_of, Formed}
 
 -- x is the start of a term of the type y
 pub record Typed (a : Nodes) (y : Ty) (x : ℕ) : Type 0 where
@@ -25,7 +26,7 @@ abbrev pub Options : Nodes → List ℕ → Type 0
 Options a [] = Unit {0}
 Options a (x ∷ r) = OfKind a 3 x × Options a r
 
--- the cells below m are a well-formed arena, the others 0, and P holds of the arena
-pub record Ready (P : Nodes → Type 0) (c : List ℕ) (m : ℕ) : Type 0 where
-  pub arena : IsArena c m
-  pub fit : P (used c m)
+-- a well-formed arena of whose nodes P holds
+pub record Ready (P : Nodes → Type 0) (o : Arena) : Type 0 where
+  pub arena : Formed o
+  pub fit : P (nodes_of o)

@@ -1,55 +1,53 @@
 // factory.rs, the core theory: not, and, or, implies, eq and ite, function by function in its order.
 
-#![tactic(auto)]
+#![tactic(auto, using(factory::proofs::Calls::term_pos))]
 
 ghost use Rattle.std.specs.Prelude.{◌≡◌, true, ◌&&◌, ◌||◌, ◌≤◌, eqb};
 ghost use Rattle.arena.specs.Cells.{used};
 ghost use Rattle.arena.specs.Values.{tbool};
-ghost use Rattle.arena.specs.Did.{Did};
-ghost use Rattle.nodes.specs.Replies.{term_reply};
+ghost use Rattle.nodes.specs.Builds.{nodes_of, Formed, Builds, term_reply};
 ghost use Rattle.factory.specs.Fit.{Typed, Alike, Ready};
 ghost use Rattle.factory.specs.Core.{not_t, opposites as opposed, junction, and_t, or_t, implies as impliesT, eq_simplify, eq_t, ite_simplify, ite_of_somes, ite_t};
 
 use arena::TermPos;
-use arena::cells::{arg_of, kind_of, type_of};
-use factory_makers::{BOOL, FALSE, TRUE, all2, any2, app1, app2, both_literal, some_of};
-use nodes::{Cursor, TermStep};
+use factory_makers::{BOOL, FALSE, TRUE, app1, app2, both_literal, some_of};
+use nodes::{Arena, Full};
 
 // ---------- SMTLib core theory of equality with uninterpreted functions (`UF`) ----------
 
-pub fn not(cells: &mut [u64], cursor: Cursor, t: TermPos) -> TermStep
-    requires { Ready (λ a. Typed a tbool t.0) cells.old cursor.mark }
-    ensures { Did (λ a. not_t a t.0) cells.old cursor.mark (term_reply result) cells.new }
+pub fn not(arena: &mut Arena<'_>, t: TermPos) -> Result<TermPos, Full>
+    requires { Ready (λ a. Typed a tbool t.0) arena.old }
+    ensures { Builds (λ a. not_t a t.0) arena.old (term_reply result) arena.new }
 {
     if t.0 == TRUE.0 {
-        return TermStep::At(cursor, FALSE);
+        return Ok(FALSE);
     }
     if t.0 == FALSE.0 {
-        return TermStep::At(cursor, TRUE);
+        return Ok(TRUE);
     }
-    if kind_of(cells, cursor.mark, t.0) == 120 {
-        return TermStep::At(cursor, TermPos(arg_of(cells, cursor.mark, t.0, 0)));
+    if arena.kind_of(t.0) == 120 {
+        return Ok(TermPos(arena.arg_of(t.0, 0)));
     }
-    app1(cells, cursor, 20, BOOL, t)
+    app1(arena, 20, BOOL, t)
 }
 
-pub fn opposites(cells: &[u64], cursor: Cursor, t: TermPos, u: TermPos) -> bool
-    requires { Ready (λ a. Typed a tbool t.0 × Typed a tbool u.0) cells.now cursor.mark }
-    ensures { result ≡ opposed (used cells.now cursor.mark) t.0 u.0 }
+pub fn opposites(arena: &Arena<'_>, t: TermPos, u: TermPos) -> bool
+    requires { Ready (λ a. Typed a tbool t.0 × Typed a tbool u.0) arena.now }
+    ensures { result ≡ opposed (nodes_of arena.now) t.0 u.0 }
 {
-    if kind_of(cells, cursor.mark, u.0) == 120 {
-        return t.0 == arg_of(cells, cursor.mark, u.0, 0);
+    if arena.kind_of(u.0) == 120 {
+        return t.0 == arena.arg_of(u.0, 0);
     }
-    if kind_of(cells, cursor.mark, t.0) == 120 {
-        return arg_of(cells, cursor.mark, t.0, 0) == u.0;
+    if arena.kind_of(t.0) == 120 {
+        return arena.arg_of(t.0, 0) == u.0;
     }
     false
 }
 
 // Whether `and` or `or` gives its other literal: one operand is that, or they are opposites.
-fn decided(cells: &[u64], cursor: Cursor, t: TermPos, u: TermPos, other: TermPos) -> bool
-    requires { Ready (λ a. Typed a tbool t.0 × Typed a tbool u.0) cells.now cursor.mark }
-    ensures { result ≡ (eqb t.0 other.0 || (eqb u.0 other.0 || opposed (used cells.now cursor.mark) t.0 u.0)) }
+fn decided(arena: &Arena<'_>, t: TermPos, u: TermPos, other: TermPos) -> bool
+    requires { Ready (λ a. Typed a tbool t.0 × Typed a tbool u.0) arena.now }
+    ensures { result ≡ (eqb t.0 other.0 || (eqb u.0 other.0 || opposed (nodes_of arena.now) t.0 u.0)) }
 {
     if t.0 == other.0 {
         return true;
@@ -57,151 +55,145 @@ fn decided(cells: &[u64], cursor: Cursor, t: TermPos, u: TermPos, other: TermPos
     if u.0 == other.0 {
         return true;
     }
-    opposites(cells, cursor, t, u)
+    opposites(arena, t, u)
 }
 
 // What `and` and `or` share: `unit` adds nothing, the other literal decides.
 fn joined(
-    cells: &mut [u64],
-    cursor: Cursor,
+    arena: &mut Arena<'_>,
     op: u64,
     unit: TermPos,
     other: TermPos,
     t: TermPos,
     u: TermPos,
-) -> TermStep
-    requires ready { Ready (λ a. Typed a tbool t.0 × Typed a tbool u.0) cells.old cursor.mark }
+) -> Result<TermPos, Full>
+    requires ready { Ready (λ a. Typed a tbool t.0 × Typed a tbool u.0) arena.old }
     requires op_bound { op ≤ 99 }
-    ensures { Did (λ a. junction op unit.0 other.0 a t.0 u.0) cells.old cursor.mark (term_reply result) cells.new }
+    ensures { Builds (λ a. junction op unit.0 other.0 a t.0 u.0) arena.old (term_reply result) arena.new }
 {
-    if any2(t.0 == u.0, u.0 == unit.0) {
-        return TermStep::At(cursor, t);
+    if (t.0 == u.0) | (u.0 == unit.0) {
+        return Ok(t);
     }
     if t.0 == unit.0 {
-        return TermStep::At(cursor, u);
+        return Ok(u);
     }
-    if decided(cells, cursor, t, u, other) {
-        return TermStep::At(cursor, other);
+    if decided(arena, t, u, other) {
+        return Ok(other);
     }
-    app2(cells, cursor, op, BOOL, t, u)
+    app2(arena, op, BOOL, t, u)
 }
 
-pub fn and(cells: &mut [u64], cursor: Cursor, t: TermPos, u: TermPos) -> TermStep
-    requires { Ready (λ a. Typed a tbool t.0 × Typed a tbool u.0) cells.old cursor.mark }
-    ensures { Did (λ a. and_t a t.0 u.0) cells.old cursor.mark (term_reply result) cells.new }
+pub fn and(arena: &mut Arena<'_>, t: TermPos, u: TermPos) -> Result<TermPos, Full>
+    requires { Ready (λ a. Typed a tbool t.0 × Typed a tbool u.0) arena.old }
+    ensures { Builds (λ a. and_t a t.0 u.0) arena.old (term_reply result) arena.new }
 {
-    joined(cells, cursor, 21, TRUE, FALSE, t, u)
+    joined(arena, 21, TRUE, FALSE, t, u)
 }
 
-pub fn or(cells: &mut [u64], cursor: Cursor, t: TermPos, u: TermPos) -> TermStep
-    requires { Ready (λ a. Typed a tbool t.0 × Typed a tbool u.0) cells.old cursor.mark }
-    ensures { Did (λ a. or_t a t.0 u.0) cells.old cursor.mark (term_reply result) cells.new }
+pub fn or(arena: &mut Arena<'_>, t: TermPos, u: TermPos) -> Result<TermPos, Full>
+    requires { Ready (λ a. Typed a tbool t.0 × Typed a tbool u.0) arena.old }
+    ensures { Builds (λ a. or_t a t.0 u.0) arena.old (term_reply result) arena.new }
 {
-    joined(cells, cursor, 22, FALSE, TRUE, t, u)
+    joined(arena, 22, FALSE, TRUE, t, u)
 }
 
-pub fn implies(cells: &mut [u64], cursor: Cursor, t: TermPos, u: TermPos) -> TermStep
-    requires { Ready (λ a. Typed a tbool t.0 × Typed a tbool u.0) cells.old cursor.mark }
-    ensures { Did (λ a. impliesT a t.0 u.0) cells.old cursor.mark (term_reply result) cells.new }
+pub fn implies(arena: &mut Arena<'_>, t: TermPos, u: TermPos) -> Result<TermPos, Full>
+    requires { Ready (λ a. Typed a tbool t.0 × Typed a tbool u.0) arena.old }
+    ensures { Builds (λ a. impliesT a t.0 u.0) arena.old (term_reply result) arena.new }
 {
-    match not(cells, cursor, t) {
-        TermStep::At(next, n) => or(cells, next, n, u),
-        TermStep::Full => TermStep::Full,
-    }
+    let n = not(arena, t)?;
+    or(arena, n, u)
 }
 
 // The closure of `eq`. A term that is compared with true or false here is of type Bool, since the two are of one type.
-fn eq_simplify(cells: &mut [u64], cursor: Cursor, t: TermPos, u: TermPos) -> TermStep
-    requires { Ready (λ a. Alike a t.0 u.0) cells.old cursor.mark }
-    ensures { Did (λ a. eq_simplify a t.0 u.0) cells.old cursor.mark (term_reply result) cells.new }
+fn eq_simplify(arena: &mut Arena<'_>, t: TermPos, u: TermPos) -> Result<TermPos, Full>
+    requires { Ready (λ a. Alike a t.0 u.0) arena.old }
+    ensures { Builds (λ a. eq_simplify a t.0 u.0) arena.old (term_reply result) arena.new }
 {
     if t.0 == u.0 {
-        return TermStep::At(cursor, TRUE);
+        return Ok(TRUE);
     }
-    if both_literal(cells, cursor, t, u) {
-        return TermStep::At(cursor, FALSE);
+    if both_literal(arena, t, u) {
+        return Ok(FALSE);
     }
     if t.0 == TRUE.0 {
-        return TermStep::At(cursor, u);
+        return Ok(u);
     }
     if u.0 == TRUE.0 {
-        return TermStep::At(cursor, t);
+        return Ok(t);
     }
     if t.0 == FALSE.0 {
-        return not(cells, cursor, u);
+        return not(arena, u);
     }
     if u.0 == FALSE.0 {
-        return not(cells, cursor, t);
+        return not(arena, t);
     }
-    app2(cells, cursor, 24, BOOL, t, u)
+    app2(arena, 24, BOOL, t, u)
 }
 
-pub fn eq(cells: &mut [u64], cursor: Cursor, t: TermPos, u: TermPos) -> TermStep
-    requires { Ready (λ a. Alike a t.0 u.0) cells.old cursor.mark }
-    ensures { Did (λ a. eq_t a t.0 u.0) cells.old cursor.mark (term_reply result) cells.new }
+pub fn eq(arena: &mut Arena<'_>, t: TermPos, u: TermPos) -> Result<TermPos, Full>
+    requires { Ready (λ a. Alike a t.0 u.0) arena.old }
+    ensures { Builds (λ a. eq_t a t.0 u.0) arena.old (term_reply result) arena.new }
 {
-    let k = kind_of(cells, cursor.mark, t.0);
-    let l = kind_of(cells, cursor.mark, u.0);
-    if all2(k == 19, l == 19) {
-        let x = TermPos(arg_of(cells, cursor.mark, t.0, 0));
-        let y = TermPos(arg_of(cells, cursor.mark, u.0, 0));
-        return eq_simplify(cells, cursor, x, y);
+    let k = arena.kind_of(t.0);
+    let l = arena.kind_of(u.0);
+    if (k == 19) & (l == 19) {
+        let x = TermPos(arena.arg_of(t.0, 0));
+        let y = TermPos(arena.arg_of(u.0, 0));
+        return eq_simplify(arena, x, y);
     }
-    if any2(all2(k == 19, l == 18), all2(k == 18, l == 19)) {
-        return TermStep::At(cursor, FALSE);
+    if (k == 19) & (l == 18) | (k == 18) & (l == 19) {
+        return Ok(FALSE);
     }
-    eq_simplify(cells, cursor, t, u)
+    eq_simplify(arena, t, u)
 }
 
 // The closure of `ite`.
-fn ite_simplify(cells: &mut [u64], cursor: Cursor, g: TermPos, t: TermPos, u: TermPos) -> TermStep
-    requires { Ready (λ a. Typed a tbool g.0 × Alike a t.0 u.0) cells.old cursor.mark }
-    ensures { Did (λ a. ite_simplify a g.0 t.0 u.0) cells.old cursor.mark (term_reply result) cells.new }
+fn ite_simplify(arena: &mut Arena<'_>, g: TermPos, t: TermPos, u: TermPos) -> Result<TermPos, Full>
+    requires { Ready (λ a. Typed a tbool g.0 × Alike a t.0 u.0) arena.old }
+    ensures { Builds (λ a. ite_simplify a g.0 t.0 u.0) arena.old (term_reply result) arena.new }
 {
-    if any2(g.0 == TRUE.0, t.0 == u.0) {
-        return TermStep::At(cursor, t);
+    if (g.0 == TRUE.0) | (t.0 == u.0) {
+        return Ok(t);
     }
     if g.0 == FALSE.0 {
-        return TermStep::At(cursor, u);
+        return Ok(u);
     }
-    if all2(t.0 == TRUE.0, u.0 == FALSE.0) {
-        return TermStep::At(cursor, g);
+    if (t.0 == TRUE.0) & (u.0 == FALSE.0) {
+        return Ok(g);
     }
-    if all2(t.0 == FALSE.0, u.0 == TRUE.0) {
-        return not(cells, cursor, g);
+    if (t.0 == FALSE.0) & (u.0 == TRUE.0) {
+        return not(arena, g);
     }
     if u.0 == FALSE.0 {
-        return and(cells, cursor, g, t);
+        return and(arena, g, t);
     }
     if t.0 == TRUE.0 {
-        return or(cells, cursor, g, u);
+        return or(arena, g, u);
     }
-    let ty = type_of(cells, cursor.mark, t);
-    let members = [g.0, t.0, u.0];
-    cursor.term_node(cells, 125, ty, 0, &members)
+    let ty = arena.type_of(t);
+    arena.term_node(125, ty, 0, &[g.0, t.0, u.0])
 }
 
 // `ite` of two Somes: one layer goes round the whole.
-fn ite_of_somes(cells: &mut [u64], cursor: Cursor, g: TermPos, x: TermPos, y: TermPos) -> TermStep
-    requires { Ready (λ a. Typed a tbool g.0 × Alike a x.0 y.0) cells.old cursor.mark }
-    ensures { Did (λ a. ite_of_somes a g.0 x.0 y.0) cells.old cursor.mark (term_reply result) cells.new }
+fn ite_of_somes(arena: &mut Arena<'_>, g: TermPos, x: TermPos, y: TermPos) -> Result<TermPos, Full>
+    requires { Ready (λ a. Typed a tbool g.0 × Alike a x.0 y.0) arena.old }
+    ensures { Builds (λ a. ite_of_somes a g.0 x.0 y.0) arena.old (term_reply result) arena.new }
 {
-    match ite_simplify(cells, cursor, g, x, y) {
-        TermStep::At(next, s) => some_of(cells, next, s),
-        TermStep::Full => TermStep::Full,
-    }
+    let s = ite_simplify(arena, g, x, y)?;
+    some_of(arena, s)
 }
 
-pub fn ite(cells: &mut [u64], cursor: Cursor, g: TermPos, t: TermPos, u: TermPos) -> TermStep
-    requires { Ready (λ a. Typed a tbool g.0 × Alike a t.0 u.0) cells.old cursor.mark }
-    ensures { Did (λ a. ite_t a g.0 t.0 u.0) cells.old cursor.mark (term_reply result) cells.new }
+pub fn ite(arena: &mut Arena<'_>, g: TermPos, t: TermPos, u: TermPos) -> Result<TermPos, Full>
+    requires { Ready (λ a. Typed a tbool g.0 × Alike a t.0 u.0) arena.old }
+    ensures { Builds (λ a. ite_t a g.0 t.0 u.0) arena.old (term_reply result) arena.new }
 {
-    let k = kind_of(cells, cursor.mark, t.0);
-    let l = kind_of(cells, cursor.mark, u.0);
-    if all2(k == 19, l == 19) {
-        let x = TermPos(arg_of(cells, cursor.mark, t.0, 0));
-        let y = TermPos(arg_of(cells, cursor.mark, u.0, 0));
-        return ite_of_somes(cells, cursor, g, x, y);
+    let k = arena.kind_of(t.0);
+    let l = arena.kind_of(u.0);
+    if (k == 19) & (l == 19) {
+        let x = TermPos(arena.arg_of(t.0, 0));
+        let y = TermPos(arena.arg_of(u.0, 0));
+        return ite_of_somes(arena, g, x, y);
     }
-    ite_simplify(cells, cursor, g, t, u)
+    ite_simplify(arena, g, t, u)
 }

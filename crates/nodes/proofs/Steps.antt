@@ -39,12 +39,12 @@ module _ {F : Nodes → Out} (o n : Arena) {p : ℕ} (b : Builds F o (Some p) n)
   pub builds_then : (G : Nodes → ℕ → Out) {r : Option ℕ} {q : Arena} → Builds (λ a. G a p) n r q → Builds (λ a. F a ⨟ G) o r q
   builds_then G s = record { same = s.same ∙ b.same; did = did_then refl b.did G s.did }
 
--- ---- a step that had no room: a row that a `?` leaves
+-- ---- a step that had no room, and the row that a `?` leaves there
+
+pub builds_stop : {F : Nodes → Out} (o : Arena) {n : Arena} (G : Nodes → Out) → Builds F o None n → Ext (F (nodes_of o)).arena (G (nodes_of o)).arena → Builds G o None n
+builds_stop o G b x = record { same = b.same; did = did_stop refl b.did x }
 
 pub term_stop : {F : Nodes → Out} (o : Arena) {n : Arena} (G : Nodes → Out) (r : Result TermPos Full) → IsErr r → Builds F o None n
     → Ext (F (nodes_of o)).arena (G (nodes_of o)).arena → Builds G o (term_reply r) n
-term_stop o {n} G r e b x = go r e
-  where
-    go : (r : Result TermPos Full) → IsErr r → Builds G o (term_reply r) n
-    go (Ok t) e = absurd cc
-    go (Err f) e = record { same = b.same; did = did_stop refl b.did x }
+term_stop o G (Ok t) e b x = absurd cc
+term_stop o G (Err f) e b x = builds_stop o G b x

@@ -1,3 +1,4 @@
+use Rattle.nodes.specs.Builds.{nodes_of}
 use Prim.Native.Nat.{ℕ}
 use lib.Dec.{eqb}
 use mathlib.Core.Bool.{true}
@@ -5,21 +6,16 @@ use mathlib.Core.List.{List}
 use mathlib.Core.Path.{◌≡◌, ap, ◌∙◌}
 use Rattle.compiler.specs.Compiler.{fields_at, optioned, compiled_get_attr}
 use Rattle.compiler.proofs.Optional.{optioned_ext}
-use Rattle.factory.proofs.Calls.{ready_wf, ready_next, term_pos}
+use Rattle.factory.proofs.Calls.{ready_wf, ready_next}
 use Rattle.factory.proofs.Operands.{type_pos}
 use Rattle.factory.proofs.Records.{record_get_law}
-use Rattle.arena.specs.Cells.{used}
-use Rattle.nodes.specs.Replies.{term_reply}
 use Rattle.arena.specs.Lists.{field_d}
 use Rattle.arena.specs.Nodes.{type_at, mem_at}
 use Rattle.arena.specs.WellFormed.{is_term}
 use Rattle.arena.proofs.Chain.{type-kind}
-use Rattle.arena.proofs.Steps.{did_then, did_stop, picked}
+use Rattle.nodes.proofs.Steps.{builds_then, term_stop, builds_as}
 use Rattle.arena.proofs.Whole.{field-type}
 use Rattle.compiled.proofs.compile_get_attr.Goals as goal
-
-pub type_of-ty-requires : goal.type_of-ty-requires
-type_of-ty-requires c = record { below = c.requires.arena.below; bound = term_pos _ _ c.requires.fit.rec.isterm }
 
 pub members_of-requires : goal.members_of-requires
 members_of-requires c = record { below = c.requires.arena.below; bound = rw c.type_of-ty.ensures (type_pos (ready_wf c.requires) c.args.t.0 c.requires.fit.rec.isterm) }
@@ -28,24 +24,24 @@ pub kind_of-option-requires : goal.kind_of-option-requires
 kind_of-option-requires c =
     let s = c.requires in
     let w = ready_wf s in
-    record { below = s.arena.below; bound = rw ((c.field_or_0-of.ensures ∙ ap (λ (r : List ℕ). field_d r c.args.k) (c.members_of.ensures ∙ ap (mem_at (used c.args.cells.now c.args.cursor.mark)) c.type_of-ty.ensures))) (type-kind _ _ (field-type w (type_at _ c.args.t.0) c.args.k _ s.fit.rec.sort s.fit.there)).0 }
+    record { below = s.arena.below; bound = rw ((c.field_or_0-of.ensures ∙ ap (λ (r : List ℕ). field_d r c.args.k) (c.members_of.ensures ∙ ap (mem_at (nodes_of c.args.arena.now)) c.type_of-ty.ensures))) (type-kind _ _ (field-type w (type_at _ c.args.t.0) c.args.k _ s.fit.rec.sort s.fit.there)).0 }
 
 pub optioned-requires : goal.optioned-requires
 optioned-requires c =
     let s = c.requires in
     let w = ready_wf s in
     let l = record_get_law w c.args.k c.args.t.0 (field_d (fields_at _ c.args.t.0) c.args.k) s.fit.small s.fit.rec.isterm s.fit.rec.sort s.fit.there in
-    ready_next (λ a n. is_term a n ≡ true) (ap term_reply c.in-At.is) c.record_get.ensures s.arena l.wf
+    ready_next (λ a n. is_term a n ≡ true) c.args.arena.now _ c.in_ok-p.ensures s.arena l.wf
     l.typed.isterm
 
-pub returns-in-At : goal.returns-in-At
+pub returns : goal.returns
 unfolding compiled_get_attr
-returns-in-At c = picked (did_then (ap term_reply c.in-At.is) c.record_get.ensures (λ b p. optioned (eqb c.kind_of-option.result 3) b p) c.optioned.ensures) (rw (c.kind_of-option.ensures, (c.field_or_0-of.ensures ∙ ap (λ (r : List ℕ). field_d r c.args.k) (c.members_of.ensures ∙ ap (mem_at (used c.args.cells.now c.args.cursor.mark)) c.type_of-ty.ensures))))
+returns c = builds_as (builds_then c.args.arena.now _ c.in_ok-p.ensures (λ b p. optioned (eqb c.kind_of-option.result 3) b p) c.optioned.ensures) (rw (c.kind_of-option.ensures, (c.field_or_0-of.ensures ∙ ap (λ (r : List ℕ). field_d r c.args.k) (c.members_of.ensures ∙ ap (mem_at (nodes_of c.args.arena.now)) c.type_of-ty.ensures))))
 
-pub returns-in-Full : goal.returns-in-Full
+pub returns-in_err-p : goal.returns-in_err-p
 unfolding compiled_get_attr
-returns-in-Full c =
+returns-in_err-p c =
     let s = c.requires in
     let w = ready_wf s in
     let l = record_get_law w c.args.k c.args.t.0 (field_d (fields_at _ c.args.t.0) c.args.k) s.fit.small s.fit.rec.isterm s.fit.rec.sort s.fit.there in
-    did_stop (ap term_reply c.in-Full.is) c.record_get.ensures (optioned_ext l.wf _ _ l.typed)
+    term_stop c.args.arena.now _ c.from_residual.result c.from_residual.ensures.0 c.in_err-p.ensures (optioned_ext l.wf _ _ l.typed)

@@ -1,4 +1,3 @@
-use mathlib.Core.Path.{ap}
 use native.Mathlib.Omega.{arith}
 use Rattle.compiler.specs.Compiler.{neg_unless, compiled_neg}
 use Rattle.compiler.proofs.Optional.{kind_keep}
@@ -7,10 +6,9 @@ use Rattle.factory.proofs.Bits.{bvneg_law, bvnego_law}
 use Rattle.factory.proofs.Calls.{ready_wf, ready_next}
 use Rattle.factory.proofs.Guards.{if_false_law}
 use Rattle.factory.proofs.Law.{typed_ext, bv_typed}
-use Rattle.nodes.specs.Replies.{term_reply}
 use Rattle.arena.specs.Values.{tbool}
 use Rattle.arena.proofs.Ext.{ext_trans}
-use Rattle.arena.proofs.Steps.{did_then, did_stop}
+use Rattle.nodes.proofs.Steps.{builds_then, term_stop}
 use Rattle.compiled.proofs.compile_neg.Goals as goal
 
 pub neg_unless-requires : goal.neg_unless-requires
@@ -18,18 +16,18 @@ neg_unless-requires c =
     let s = c.requires in
     let w = ready_wf s in
     let l = bvnego_law w c.args.t.0 (bv_typed w c.args.t.0 s.fit.isterm s.fit.sort) in
-    ready_next (λ a n. Typed a tbool n × OfKind a 2 c.args.t.0) (ap term_reply c.in-At.is) c.bvnego.ensures s.arena l.wf
+    ready_next (λ a n. Typed a tbool n × OfKind a 2 c.args.t.0) c.args.arena.now _ c.in_ok-g.ensures s.arena l.wf
     (l.typed, kind_keep l.ext (omega arith) s.fit)
 
-pub returns-in-At : goal.returns-in-At
+pub returns : goal.returns
 unfolding compiled_neg
-returns-in-At c = did_then (ap term_reply c.in-At.is) c.bvnego.ensures (λ b g. neg_unless b g c.args.t.0) c.neg_unless.ensures
+returns c = builds_then c.args.arena.now _ c.in_ok-g.ensures (λ b g. neg_unless b g c.args.t.0) c.neg_unless.ensures
 
-pub returns-in-Full : goal.returns-in-Full
+pub returns-in_err-g : goal.returns-in_err-g
 unfolding compiled_neg neg_unless
-returns-in-Full c =
+returns-in_err-g c =
     let s = c.requires in
     let w = ready_wf s in
     let l = bvnego_law w c.args.t.0 (bv_typed w c.args.t.0 s.fit.isterm s.fit.sort) in
-    did_stop (ap term_reply c.in-Full.is) c.bvnego.ensures (let n = bvneg_law l.wf c.args.t.0 (typed_ext w l.ext (bv_typed w c.args.t.0 s.fit.isterm s.fit.sort)) in
+    term_stop c.args.arena.now _ c.from_residual.result c.from_residual.ensures.0 c.in_err-g.ensures (let n = bvneg_law l.wf c.args.t.0 (typed_ext w l.ext (bv_typed w c.args.t.0 s.fit.isterm s.fit.sort)) in
     ext_trans n.ext (if_false_law n.wf _ _ (typed_ext l.wf n.ext l.typed) n.typed).ext)

@@ -1,5 +1,5 @@
 use mathlib.Core.Bool.{true}
-use mathlib.Core.Path.{◌≡◌, ap}
+use mathlib.Core.Path.{◌≡◌}
 use Rattle.compiler.specs.Compiler.{if_all_given}
 use Rattle.factory.specs.Fit.{Options}
 use Rattle.factory.specs.Helpers.{if_all_some}
@@ -7,9 +7,8 @@ use Rattle.factory.proofs.Calls.{ready_wf, ready_next}
 use Rattle.factory.proofs.Guards.{options_ext, if_all_some_law}
 use Rattle.factory.proofs.Law.{typed_self}
 use Rattle.factory.proofs.Made.{some_law}
-use Rattle.nodes.specs.Replies.{term_reply}
 use Rattle.arena.specs.WellFormed.{is_term}
-use Rattle.arena.proofs.Steps.{did_then, did_stop}
+use Rattle.nodes.proofs.Steps.{builds_then, term_stop}
 use Rattle.compiled.proofs.if_all_given.Goals as goal
 
 pub if_all_some-requires : goal.if_all_some-requires
@@ -17,17 +16,17 @@ if_all_some-requires c =
     let s = c.requires in
     let w = ready_wf s in
     let l = some_law w c.args.r.0 (typed_self c.args.r.0 s.fit.1) in
-    ready_next (λ a n. Options a c.args.gs.now × is_term a n ≡ true) (ap term_reply c.in-At.is) c.some_of.ensures s.arena l.wf
+    ready_next (λ a n. Options a c.args.gs.now × is_term a n ≡ true) c.args.arena.now _ c.in_ok-s.ensures s.arena l.wf
     (options_ext w l.ext l.wf c.args.gs.now s.fit.0, l.typed.isterm)
 
-pub returns-in-At : goal.returns-in-At
+pub returns : goal.returns
 unfolding if_all_given
-returns-in-At c = did_then (ap term_reply c.in-At.is) c.some_of.ensures (λ b s. if_all_some b c.args.gs.now s) c.if_all_some.ensures
+returns c = builds_then c.args.arena.now _ c.in_ok-s.ensures (λ b s. if_all_some b c.args.gs.now s) c.if_all_some.ensures
 
-pub returns-in-Full : goal.returns-in-Full
+pub returns-in_err-s : goal.returns-in_err-s
 unfolding if_all_given
-returns-in-Full c =
+returns-in_err-s c =
     let s = c.requires in
     let w = ready_wf s in
     let l = some_law w c.args.r.0 (typed_self c.args.r.0 s.fit.1) in
-    did_stop (ap term_reply c.in-Full.is) c.some_of.ensures (if_all_some_law l.wf c.args.gs.now (options_ext w l.ext l.wf c.args.gs.now s.fit.0) _ l.typed).ext
+    term_stop c.args.arena.now _ c.from_residual.result c.from_residual.ensures.0 c.in_err-s.ensures (if_all_some_law l.wf c.args.gs.now (options_ext w l.ext l.wf c.args.gs.now s.fit.0) _ l.typed).ext

@@ -1,3 +1,4 @@
+use Rattle.nodes.specs.Builds.{nodes_of}
 use Rattle.std.proofs.Common.{arith}
 use mathlib.Core.List.{[], ◌∷◌}
 use mathlib.Core.Path.{refl, ◌∙◌}
@@ -5,8 +6,7 @@ use Rattle.table.specs.Table.{ty, tm, row, table, row_of}
 use Rattle.table.proofs.Dispatch.{passed_at, up, same, build-at}
 use Rattle.table.proofs.Fits.{few_pairs, few_run, one_type_lem, one-term, type-run, term-pairs, elements, small-keys}
 use Rattle.factory.proofs.Calls.{ready_wf}
-use Rattle.arena.specs.Cells.{used}
-use Rattle.arena.proofs.Steps.{picked, did_here}
+use Rattle.nodes.proofs.Steps.{builds_as, builds_here}
 use Rattle.dispatch.proofs.build_maker.Goals as goal
 
 pub bitvec_lit-requires : goal.bitvec_lit-requires
@@ -18,32 +18,32 @@ unfolding row row_of table
 none_of-requires c =
     let s = c.requires.ready in
     let w = ready_wf s in
-    let P = passed_at (used c.args.cells.now c.args.cursor.mark) c.args.op c.args.par c.args.xs.now 12 c.in-12.is s.fit in
-    record { arena = s.arena; fit = rw c.nth-x.ensures (one_type_lem (used c.args.cells.now c.args.cursor.mark) c.args.xs.now P.sorts) }
+    let P = passed_at (nodes_of c.args.arena.now) c.args.op c.args.par c.args.xs.now 12 c.in-12.is s.fit in
+    record { arena = s.arena; fit = rw c.nth-x.ensures (one_type_lem (nodes_of c.args.arena.now) c.args.xs.now P.sorts) }
 
 pub some_of-requires : goal.some_of-requires
 unfolding row row_of table
 some_of-requires c =
     let s = c.requires.ready in
     let w = ready_wf s in
-    let P = passed_at (used c.args.cells.now c.args.cursor.mark) c.args.op c.args.par c.args.xs.now 13 c.in-13.is s.fit in
-    record { arena = s.arena; fit = rw c.nth-x.ensures (one-term (used c.args.cells.now c.args.cursor.mark) c.args.xs.now P.sorts) }
+    let P = passed_at (nodes_of c.args.arena.now) c.args.op c.args.par c.args.xs.now 13 c.in-13.is s.fit in
+    record { arena = s.arena; fit = rw c.nth-x.ensures (one-term (nodes_of c.args.arena.now) c.args.xs.now P.sorts) }
 
 pub set_of-requires : goal.set_of-requires
 unfolding row row_of table
 set_of-requires c =
     let s = c.requires.ready in
     let w = ready_wf s in
-    let P = passed_at (used c.args.cells.now c.args.cursor.mark) c.args.op c.args.par c.args.xs.now 14 c.in-14.is s.fit in
-    record { ready = record { arena = s.arena; fit = (rw c.nth-x.ensures (type-run (used c.args.cells.now c.args.cursor.mark) c.args.xs.now P.sorts).0, rw c.nth-x.ensures (elements (used c.args.cells.now c.args.cursor.mark) c.args.xs.now P.five).0) }; terms_len_bound = rw c.rest.ensures (few_run c.args.xs.now _ refl (ty ∷ []) P.few) }
+    let P = passed_at (nodes_of c.args.arena.now) c.args.op c.args.par c.args.xs.now 14 c.in-14.is s.fit in
+    record { ready = record { arena = s.arena; fit = (rw c.nth-x.ensures (type-run (nodes_of c.args.arena.now) c.args.xs.now P.sorts).0, rw c.nth-x.ensures (elements (nodes_of c.args.arena.now) c.args.xs.now P.five).0) }; terms_len_bound = rw c.rest.ensures (few_run c.args.xs.now _ refl (ty ∷ []) P.few) }
 
 pub record_of-requires : goal.record_of-requires
 unfolding row row_of table
 record_of-requires c =
     let s = c.requires.ready in
     let w = ready_wf s in
-    let P = passed_at (used c.args.cells.now c.args.cursor.mark) c.args.op c.args.par c.args.xs.now 15 c.in-15.is s.fit in
-    record { ready = record { arena = s.arena; fit = (term-pairs (used c.args.cells.now c.args.cursor.mark) c.args.xs.now P.sorts, small-keys (used c.args.cells.now c.args.cursor.mark) c.args.par c.args.xs.now P.seven) }; list_len_bound = few_pairs c.args.xs.now _ refl tm P.few }
+    let P = passed_at (nodes_of c.args.arena.now) c.args.op c.args.par c.args.xs.now 15 c.in-15.is s.fit in
+    record { ready = record { arena = s.arena; fit = (term-pairs (nodes_of c.args.arena.now) c.args.xs.now P.sorts, small-keys (nodes_of c.args.arena.now) c.args.par c.args.xs.now P.seven) }; list_len_bound = few_pairs c.args.xs.now _ refl tm P.few }
 
 pub variable-requires : goal.variable-requires
 unfolding row row_of table
@@ -51,28 +51,28 @@ variable-requires c = c.requires.ready.arena
 
 pub returns-in-10 : goal.returns-in-10
 unfolding row row_of table
-returns-in-10 c = picked (did_here c.requires.ready.arena c.bool_at.result.0) (build-at (used c.args.cells.now c.args.cursor.mark) c.args.op c.args.par c.args.xs.now 10 c.in-10.is ∙ rw c.bool_at.ensures)
+returns-in-10 c = builds_as (builds_here c.args.arena.now c.requires.ready.arena c.bool_at.result.0) (build-at (nodes_of c.args.arena.now) c.args.op c.args.par c.args.xs.now 10 c.in-10.is ∙ rw c.bool_at.ensures)
 
 pub returns-in-11 : goal.returns-in-11
 unfolding row row_of table
-returns-in-11 c = picked c.bitvec_lit.ensures (build-at (used c.args.cells.now c.args.cursor.mark) c.args.op c.args.par c.args.xs.now 11 c.in-11.is ∙ rw c.nth-x.ensures)
+returns-in-11 c = builds_as c.bitvec_lit.ensures (build-at (nodes_of c.args.arena.now) c.args.op c.args.par c.args.xs.now 11 c.in-11.is ∙ rw c.nth-x.ensures)
 
 pub returns-in-12 : goal.returns-in-12
 unfolding row row_of table
-returns-in-12 c = picked c.none_of.ensures (build-at (used c.args.cells.now c.args.cursor.mark) c.args.op c.args.par c.args.xs.now 12 c.in-12.is ∙ rw c.nth-x.ensures)
+returns-in-12 c = builds_as c.none_of.ensures (build-at (nodes_of c.args.arena.now) c.args.op c.args.par c.args.xs.now 12 c.in-12.is ∙ rw c.nth-x.ensures)
 
 pub returns-in-13 : goal.returns-in-13
 unfolding row row_of table
-returns-in-13 c = picked c.some_of.ensures (build-at (used c.args.cells.now c.args.cursor.mark) c.args.op c.args.par c.args.xs.now 13 c.in-13.is ∙ rw c.nth-x.ensures)
+returns-in-13 c = builds_as c.some_of.ensures (build-at (nodes_of c.args.arena.now) c.args.op c.args.par c.args.xs.now 13 c.in-13.is ∙ rw c.nth-x.ensures)
 
 pub returns-in-14 : goal.returns-in-14
 unfolding row row_of table
-returns-in-14 c = picked c.set_of.ensures (build-at (used c.args.cells.now c.args.cursor.mark) c.args.op c.args.par c.args.xs.now 14 c.in-14.is ∙ rw (c.nth-x.ensures, c.rest.ensures))
+returns-in-14 c = builds_as c.set_of.ensures (build-at (nodes_of c.args.arena.now) c.args.op c.args.par c.args.xs.now 14 c.in-14.is ∙ rw (c.nth-x.ensures, c.rest.ensures))
 
 pub returns-in-15 : goal.returns-in-15
 unfolding row row_of table
-returns-in-15 c = picked c.record_of.ensures (build-at (used c.args.cells.now c.args.cursor.mark) c.args.op c.args.par c.args.xs.now 15 c.in-15.is)
+returns-in-15 c = builds_as c.record_of.ensures (build-at (nodes_of c.args.arena.now) c.args.op c.args.par c.args.xs.now 15 c.in-15.is)
 
 pub returns-in_default : goal.returns-in_default
 unfolding row row_of table
-returns-in_default c = picked c.variable.ensures (build-at (used c.args.cells.now c.args.cursor.mark) c.args.op c.args.par c.args.xs.now 16 (same (up (up (up (up (up (up c.requires.le_op.0 (λ e. omega arith)) (λ e. omega arith)) (λ e. omega arith)) (λ e. omega arith)) (λ e. omega arith)) (λ e. omega arith)) c.requires.le_op.1) ∙ rw c.nth-x.ensures)
+returns-in_default c = builds_as c.variable.ensures (build-at (nodes_of c.args.arena.now) c.args.op c.args.par c.args.xs.now 16 (same (up (up (up (up (up (up c.requires.le_op.0 (λ e. omega arith)) (λ e. omega arith)) (λ e. omega arith)) (λ e. omega arith)) (λ e. omega arith)) (λ e. omega arith)) c.requires.le_op.1) ∙ rw c.nth-x.ensures)

@@ -1,17 +1,9 @@
 use mathlib.Core.Path.{sym, ◌∙◌}
-use Rattle.arena.proofs.Steps.{did_here, picked}
+use Rattle.nodes.proofs.Steps.{builds_here, builds_as}
 use Rattle.factory.specs.Bitvectors.{bvso_t}
-use Rattle.factory.proofs.Calls.{term_pos, ready_wf}
+use Rattle.factory.proofs.Calls.{ready_wf}
 use Rattle.factory.proofs.Operands.{two_bv}
 use Rattle.factory_bitvectors.proofs.bvso.Goals as goal
-
-pub par_of-lhs-requires : goal.par_of-lhs-requires
-par_of-lhs-requires c =
-    record { below = c.requires.ready.arena.below; bound = term_pos _ _ c.requires.ready.fit.0.isterm }
-
-pub par_of-rhs-requires : goal.par_of-rhs-requires
-par_of-rhs-requires c =
-    record { below = c.requires.ready.arena.below; bound = term_pos _ _ c.requires.ready.fit.1.1.isterm }
 
 pub bvso-requires : goal.bvso-requires
 bvso-requires c =
@@ -21,10 +13,10 @@ bvso-requires c =
 pub returns-then-both_bv : goal.returns-then-both_bv
 unfolding bvso_t
 returns-then-both_bv c =
-    picked (did_here c.requires.ready.arena c.bool_at.result.0)
+    builds_as (builds_here c.args.arena.now c.requires.ready.arena c.bool_at.result.0)
     (rw (sym c.both_bv.ensures ∙ c.if-both_bv.true, c.bool_at.ensures, c.bvso.ensures, c.width_of-width.ensures, c.par_of-lhs.ensures, c.par_of-rhs.ensures))
 
 pub returns : goal.returns
 unfolding bvso_t
 returns c =
-    picked c.app2.ensures (rw (sym c.both_bv.ensures ∙ c.if-both_bv.false))
+    builds_as c.app2.ensures (rw (sym c.both_bv.ensures ∙ c.if-both_bv.false))

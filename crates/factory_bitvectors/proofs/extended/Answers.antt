@@ -1,16 +1,10 @@
 use borrow.Author.Tests.{eq-eqb, ne_eqb}
 use mathlib.Core.Path.{sym, ◌∙◌}
 use Rattle.factory.specs.Bitvectors.{extended_to}
-use Rattle.factory.proofs.Calls.{term_pos, ready_wf}
+use Rattle.factory.proofs.Calls.{ready_wf}
 use Rattle.factory.proofs.Operands.{one_bv, wider}
-use Rattle.arena.proofs.Steps.{picked}
+use Rattle.nodes.proofs.Steps.{builds_as}
 use Rattle.factory_bitvectors.proofs.extended.Goals as goal
-
-pub kind_of-requires : goal.kind_of-requires
-kind_of-requires c = record { below = c.requires.arena.below; bound = term_pos _ _ c.requires.fit.0.isterm }
-
-pub par_of-v-requires : goal.par_of-v-requires
-par_of-v-requires c = record { below = c.requires.arena.below; bound = term_pos _ _ c.requires.fit.0.isterm }
 
 pub zero_extend-requires : goal.zero_extend-requires
 zero_extend-requires c = (rw (c.width_of-width.ensures, c.par_of-v.ensures) (one_bv (ready_wf c.requires) c.args.t.0 c.requires.fit.0 (sym c.kind_of.ensures ∙ c.if-kind_of-eq17.true)), wider (ready_wf c.requires) c.args.n c.width_of-width.ensures c.requires.fit.0 c.requires.fit.1)
@@ -18,9 +12,9 @@ zero_extend-requires c = (rw (c.width_of-width.ensures, c.par_of-v.ensures) (one
 pub returns-then-kind_of-eq17 : goal.returns-then-kind_of-eq17
 unfolding extended_to
 returns-then-kind_of-eq17 c =
-    picked c.bitvec_lit.ensures
+    builds_as c.bitvec_lit.ensures
     (rw (eq-eqb _ _ (sym c.kind_of.ensures ∙ c.if-kind_of-eq17.true), c.zero_extend.ensures, c.width_of-width.ensures, c.par_of-v.ensures))
 
 pub returns : goal.returns
 unfolding extended_to
-returns c = picked c.term_node.ensures (rw (ne_eqb _ _ (λ e. c.if-kind_of-eq17.false (c.kind_of.ensures ∙ e))))
+returns c = builds_as c.term_node.ensures (rw (ne_eqb _ _ (λ e. c.if-kind_of-eq17.false (c.kind_of.ensures ∙ e))))

@@ -1,7 +1,5 @@
-use mathlib.Core.Path.{ap}
 use Rattle.arena.specs.Values.{tbool}
-use Rattle.nodes.specs.Replies.{term_reply}
-use Rattle.arena.proofs.Steps.{did_then, did_stop}
+use Rattle.nodes.proofs.Steps.{builds_then, term_stop}
 use Rattle.factory.specs.Fit.{Typed}
 use Rattle.factory.specs.Core.{or_t, implies}
 use Rattle.factory.proofs.Law.{typed_ext}
@@ -14,18 +12,18 @@ or-requires c =
     let s = c.requires in
     let w = ready_wf s in
     let l = not_law w _ s.fit.0 in
-    ready_next (λ a n. Typed a tbool n × Typed a tbool c.args.u.0) (ap term_reply c.in-At.is) c.not.ensures s.arena l.wf
+    ready_next (λ a n. Typed a tbool n × Typed a tbool c.args.u.0) c.args.arena.now _ c.in_ok-n.ensures s.arena l.wf
     (l.typed, typed_ext w l.ext s.fit.1)
 
-pub returns-in-At : goal.returns-in-At
+pub returns : goal.returns
 unfolding implies
-returns-in-At c =
-    did_then (ap term_reply c.in-At.is) c.not.ensures (λ b n. or_t b n c.args.u.0) c.or.ensures
+returns c =
+    builds_then c.args.arena.now _ c.in_ok-n.ensures (λ b n. or_t b n c.args.u.0) c.or.ensures
 
-pub returns-in-Full : goal.returns-in-Full
+pub returns-in_err-n : goal.returns-in_err-n
 unfolding implies
-returns-in-Full c =
+returns-in_err-n c =
     let s = c.requires in
     let w = ready_wf s in
     let l = not_law w _ s.fit.0 in
-    did_stop (ap term_reply c.in-Full.is) c.not.ensures (or_law l.wf _ _ l.typed (typed_ext w l.ext s.fit.1)).ext
+    term_stop c.args.arena.now _ c.from_residual.result c.from_residual.ensures.0 c.in_err-n.ensures (or_law l.wf _ _ l.typed (typed_ext w l.ext s.fit.1)).ext

@@ -1,8 +1,7 @@
-use mathlib.Core.Path.{◌≡◌, ap}
+use mathlib.Core.Path.{◌≡◌}
 use mathlib.Core.Bool.{true}
 use Rattle.arena.specs.WellFormed.{is_term}
-use Rattle.nodes.specs.Replies.{term_reply}
-use Rattle.arena.proofs.Steps.{did_then, did_stop}
+use Rattle.nodes.proofs.Steps.{builds_then, term_stop}
 use Rattle.factory.specs.Makers.{some_of}
 use Rattle.factory.specs.Core.{ite_of_somes}
 use Rattle.factory.proofs.Made.{some_law}
@@ -15,17 +14,17 @@ some_of-requires c =
     let s = c.requires in
     let w = ready_wf s in
     let l = simplify_law w c.args.g.0 c.args.x.0 c.args.y.0 s.fit.0 s.fit.1.0 s.fit.1.1 in
-    ready_next (λ a n. is_term a n ≡ true) (ap term_reply c.in-At.is) c.ite_simplify.ensures s.arena l.wf l.typed.isterm
+    ready_next (λ a n. is_term a n ≡ true) c.args.arena.now _ c.in_ok-s.ensures s.arena l.wf l.typed.isterm
 
-pub returns-in-At : goal.returns-in-At
+pub returns : goal.returns
 unfolding ite_of_somes
-returns-in-At c =
-    did_then (ap term_reply c.in-At.is) c.ite_simplify.ensures some_of c.some_of.ensures
+returns c =
+    builds_then c.args.arena.now _ c.in_ok-s.ensures some_of c.some_of.ensures
 
-pub returns-in-Full : goal.returns-in-Full
+pub returns-in_err-s : goal.returns-in_err-s
 unfolding ite_of_somes
-returns-in-Full c =
+returns-in_err-s c =
     let s = c.requires in
     let w = ready_wf s in
     let l = simplify_law w c.args.g.0 c.args.x.0 c.args.y.0 s.fit.0 s.fit.1.0 s.fit.1.1 in
-    did_stop (ap term_reply c.in-Full.is) c.ite_simplify.ensures (some_law l.wf _ l.typed).ext
+    term_stop c.args.arena.now _ c.from_residual.result c.from_residual.ensures.0 c.in_err-s.ensures (some_law l.wf _ l.typed).ext

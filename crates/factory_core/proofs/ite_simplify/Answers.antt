@@ -1,31 +1,30 @@
-use mathlib.Core.Path.{sym, ◌∙◌}
 use mathlib.Core.Bool.{true, false}
 use borrow.Author.Tests.{eq-eqb, ne_eqb}
-use Rattle.arena.proofs.Steps.{did_here, picked}
+use Rattle.nodes.proofs.Steps.{builds_here, builds_as}
 use Rattle.factory.specs.Core.{ite_simplify}
-use Rattle.factory.proofs.Calls.{term_pos, ready_wf}
+use Rattle.factory.proofs.Calls.{ready_wf}
 use Rattle.factory.proofs.Operands.{bool_arm, bool_arm'}
 use Rattle.factory_core.proofs.ite_simplify.Goals as goal
 
-pub returns-then-any2 : goal.returns-then-any2
+pub returns-then-g-t : goal.returns-then-g-t
 unfolding ite_simplify
-returns-then-any2 c =
-    picked (did_here c.requires.arena c.args.t.0) (rw (sym c.any2.ensures ∙ c.if-any2.true))
+returns-then-g-t c =
+    builds_as (builds_here c.args.arena.now c.requires.arena c.args.t.0) (rw (c.if-g-t.true))
 
 pub returns-then-g : goal.returns-then-g
 unfolding ite_simplify
 returns-then-g c =
-    picked (did_here c.requires.arena c.args.u.0) (rw (sym c.any2.ensures ∙ c.if-any2.false, eq-eqb _ _ c.if-g.true))
+    builds_as (builds_here c.args.arena.now c.requires.arena c.args.u.0) (rw (c.if-g-t.false, eq-eqb _ _ c.if-g.true))
 
-pub returns-then-all2 : goal.returns-then-all2
+pub returns-then-t-u : goal.returns-then-t-u
 unfolding ite_simplify
-returns-then-all2 c =
-    picked (did_here c.requires.arena c.args.g.0) (rw (sym c.any2.ensures ∙ c.if-any2.false, ne_eqb _ _ c.if-g.false, sym c.all2.ensures ∙ c.if-all2.true))
+returns-then-t-u c =
+    builds_as (builds_here c.args.arena.now c.requires.arena c.args.g.0) (rw (c.if-g-t.false, ne_eqb _ _ c.if-g.false, c.if-t-u.true))
 
-pub returns-then-all2-2 : goal.returns-then-all2-2
+pub returns-then-t-u-2 : goal.returns-then-t-u-2
 unfolding ite_simplify
-returns-then-all2-2 c =
-    picked c.not.ensures (rw (sym c.any2.ensures ∙ c.if-any2.false, ne_eqb _ _ c.if-g.false, sym c.all2.ensures ∙ c.if-all2.false, sym c.all2-2.ensures ∙ c.if-all2-2.true))
+returns-then-t-u-2 c =
+    builds_as c.not.ensures (rw (c.if-g-t.false, ne_eqb _ _ c.if-g.false, c.if-t-u.false, c.if-t-u-2.true))
 
 pub and-requires : goal.and-requires
 and-requires c =
@@ -34,7 +33,7 @@ and-requires c =
 pub returns-then-u : goal.returns-then-u
 unfolding ite_simplify
 returns-then-u c =
-    picked c.and.ensures (rw (sym c.any2.ensures ∙ c.if-any2.false, ne_eqb _ _ c.if-g.false, sym c.all2.ensures ∙ c.if-all2.false, sym c.all2-2.ensures ∙ c.if-all2-2.false, eq-eqb _ _ c.if-u.true))
+    builds_as c.and.ensures (rw (c.if-g-t.false, ne_eqb _ _ c.if-g.false, c.if-t-u.false, c.if-t-u-2.false, eq-eqb _ _ c.if-u.true))
 
 pub or-requires : goal.or-requires
 or-requires c =
@@ -43,13 +42,9 @@ or-requires c =
 pub returns-then-t : goal.returns-then-t
 unfolding ite_simplify
 returns-then-t c =
-    picked c.or.ensures (rw (sym c.any2.ensures ∙ c.if-any2.false, ne_eqb _ _ c.if-g.false, sym c.all2.ensures ∙ c.if-all2.false, sym c.all2-2.ensures ∙ c.if-all2-2.false, ne_eqb _ _ c.if-u.false, eq-eqb _ _ c.if-t.true))
-
-pub type_of-ty-requires : goal.type_of-ty-requires
-type_of-ty-requires c =
-    record { below = c.requires.arena.below; bound = term_pos _ _ c.requires.fit.1.0.isterm }
+    builds_as c.or.ensures (rw (c.if-g-t.false, ne_eqb _ _ c.if-g.false, c.if-t-u.false, c.if-t-u-2.false, ne_eqb _ _ c.if-u.false, eq-eqb _ _ c.if-t.true))
 
 pub returns : goal.returns
 unfolding ite_simplify
 returns c =
-    picked c.term_node.ensures (rw (sym c.any2.ensures ∙ c.if-any2.false, ne_eqb _ _ c.if-g.false, sym c.all2.ensures ∙ c.if-all2.false, sym c.all2-2.ensures ∙ c.if-all2-2.false, ne_eqb _ _ c.if-u.false, ne_eqb _ _ c.if-t.false, c.type_of-ty.ensures))
+    builds_as c.term_node.ensures (rw (c.if-g-t.false, ne_eqb _ _ c.if-g.false, c.if-t-u.false, c.if-t-u-2.false, ne_eqb _ _ c.if-u.false, ne_eqb _ _ c.if-t.false, c.type_of-ty.ensures))

@@ -1,36 +1,27 @@
 use mathlib.Core.Path.{sym, ◌∙◌}
 use borrow.Author.Tests.{eq-eqb, ne_eqb}
-use Rattle.arena.proofs.Steps.{did_here, picked}
+use Rattle.nodes.proofs.Steps.{builds_here, builds_as}
 use Rattle.factory.specs.Core.{not_t}
-use Rattle.factory.proofs.Calls.{term_pos}
 use Rattle.factory_core.proofs.not.Goals as goal
 
 pub returns-then-t : goal.returns-then-t
 unfolding not_t
 returns-then-t c =
-    picked (did_here c.requires.arena 4) (rw (eq-eqb _ _ c.if-t.true))
+    builds_as (builds_here c.args.arena.now c.requires.arena 4) (rw (eq-eqb _ _ c.if-t.true))
 
 pub returns-then-t-2 : goal.returns-then-t-2
 unfolding not_t
 returns-then-t-2 c =
-    picked (did_here c.requires.arena 8) (rw (ne_eqb _ _ c.if-t.false, eq-eqb _ _ c.if-t-2.true))
-
-pub kind_of-requires : goal.kind_of-requires
-kind_of-requires c =
-    record { below = c.requires.arena.below; bound = term_pos _ _ c.requires.fit.isterm }
-
-pub arg_of-requires : goal.arg_of-requires
-arg_of-requires c =
-    record { below = c.requires.arena.below; bound = term_pos _ _ c.requires.fit.isterm }
+    builds_as (builds_here c.args.arena.now c.requires.arena 8) (rw (ne_eqb _ _ c.if-t.false, eq-eqb _ _ c.if-t-2.true))
 
 pub returns-then-kind_of-eq120 : goal.returns-then-kind_of-eq120
 unfolding not_t
 returns-then-kind_of-eq120 c =
-    picked (did_here c.requires.arena c.arg_of.result)
+    builds_as (builds_here c.args.arena.now c.requires.arena c.arg_of.result)
     (rw (ne_eqb _ _ c.if-t.false, ne_eqb _ _ c.if-t-2.false, eq-eqb _ _ (sym c.kind_of.ensures ∙ c.if-kind_of-eq120.true), c.arg_of.ensures))
 
 pub returns : goal.returns
 unfolding not_t
 returns c =
-    picked c.app1.ensures
+    builds_as c.app1.ensures
     (rw (ne_eqb _ _ c.if-t.false, ne_eqb _ _ c.if-t-2.false, ne_eqb _ _ (λ e. c.if-kind_of-eq120.false (c.kind_of.ensures ∙ e))))

@@ -1,28 +1,12 @@
 use mathlib.Core.Path.{sym, ◌∙◌}
 use borrow.Author.Tests.{eq-eqb, ne_eqb}
 use Rattle.factory.specs.Core.{opposites}
-use Rattle.factory.proofs.Calls.{term_pos}
 use Rattle.factory_core.proofs.opposites.Goals as goal
-
-pub kind_of-requires : goal.kind_of-requires
-kind_of-requires c = record { below = c.requires.arena.below; bound = term_pos _ _ c.requires.fit.1.isterm }
-
-pub arg_of-requires : goal.arg_of-requires
-arg_of-requires c =
-    record { below = c.requires.arena.below; bound = term_pos _ _ c.requires.fit.1.isterm }
 
 pub returns-then-kind_of-eq120 : goal.returns-then-kind_of-eq120
 unfolding opposites
 returns-then-kind_of-eq120 c =
     rw (eq-eqb _ _ (sym c.kind_of.ensures ∙ c.if-kind_of-eq120.true), c.arg_of.ensures)
-
-pub kind_of-requires-2 : goal.kind_of-requires-2
-kind_of-requires-2 c =
-    record { below = c.requires.arena.below; bound = term_pos _ _ c.requires.fit.0.isterm }
-
-pub arg_of-requires-then-kind_of-eq120-2 : goal.arg_of-requires-then-kind_of-eq120-2
-arg_of-requires-then-kind_of-eq120-2 c =
-    record { below = c.requires.arena.below; bound = term_pos _ _ c.requires.fit.0.isterm }
 
 pub returns-then-kind_of-eq120-2 : goal.returns-then-kind_of-eq120-2
 unfolding opposites

@@ -1,10 +1,6 @@
 use borrow.Author.Tests.{eq-eqb, ne_eqb}
 use mathlib.Core.Path.{sym, ◌∙◌}
-use Rattle.factory.proofs.Calls.{term_pos}
 use Rattle.factory_data.proofs.both_sets.Goals as goal
-
-pub kind_of-requires : goal.kind_of-requires
-kind_of-requires c = record { below = c.requires.arena.below; bound = term_pos _ _ c.requires.fit.0 }
 
 pub returns-then-kind_of-eq20 : goal.returns-then-kind_of-eq20
 returns-then-kind_of-eq20 c = rw (eq-eqb _ _ (sym c.kind_of.ensures ∙ c.if-kind_of-eq20.true)) c.literal_in.ensures

@@ -1,11 +1,8 @@
-use Rattle.factory.proofs.Calls.{ready_wf, term_pos}
+use Rattle.factory.proofs.Calls.{ready_wf}
 use Rattle.arena.proofs.Insertion.{holds-length}
 use Rattle.arena.proofs.Known.{set_node}
-use Rattle.arena.proofs.Steps.{picked}
+use Rattle.nodes.proofs.Steps.{builds_as}
 use Rattle.factory_data.proofs.inter_of.Goals as goal
-
-pub members_of-right-requires : goal.members_of-right-requires
-members_of-right-requires c = record { below = c.requires.arena.below; bound = term_pos _ _ c.requires.fit.1 }
 
 pub common-n-requires : goal.common-n-requires
 common-n-requires c = rw c.members_of-left.ensures (set_node (ready_wf c.requires) c.args.s.0 c.requires.fit.0).few
@@ -14,4 +11,4 @@ pub slice_bounds-term_node-end : goal.slice_bounds-term_node-end
 slice_bounds-term_node-end c = holds-length c.common-n.ensures
 
 pub returns : goal.returns
-returns c = picked c.term_node.ensures (rw (c.type_of-ty.ensures, c.common-n.ensures.front, c.members_of-left.ensures, c.members_of-right.ensures))
+returns c = builds_as c.term_node.ensures (rw (c.type_of-ty.ensures, c.common-n.ensures.front, c.members_of-left.ensures, c.members_of-right.ensures))

@@ -1,14 +1,7 @@
 use borrow.Author.Tests.{eq-eqb, ne_eqb}
 use mathlib.Core.Path.{sym, ◌∙◌}
-use Rattle.factory.proofs.Calls.{term_pos}
 use Rattle.factory.proofs.Picks.{nil_length}
 use Rattle.factory_data.proofs.is_empty_set.Goals as goal
-
-pub kind_of-requires : goal.kind_of-requires
-kind_of-requires c = record { below = c.requires.arena.below; bound = term_pos _ _ c.requires.fit }
-
-pub members_of-requires : goal.members_of-requires
-members_of-requires c = record { below = c.requires.arena.below; bound = term_pos _ _ c.requires.fit }
 
 pub returns-then-kind_of-eq20 : goal.returns-then-kind_of-eq20
 returns-then-kind_of-eq20 c = rw (eq-eqb _ _ (sym c.kind_of.ensures ∙ c.if-kind_of-eq20.true), c.members_of.ensures) (nil_length _)

@@ -1,7 +1,6 @@
 use mathlib.Core.Path.{refl, ap}
 use Rattle.arena.specs.Meaning.{ty_of}
-use Rattle.nodes.specs.Replies.{term_reply}
-use Rattle.arena.proofs.Steps.{did_then, did_stop, picked}
+use Rattle.nodes.proofs.Steps.{builds_then, term_stop, builds_as}
 use Rattle.factory.specs.Fit.{Alike}
 use Rattle.factory.specs.Core.{eq_t}
 use Rattle.factory.specs.Helpers.{eq_none}
@@ -22,18 +21,18 @@ eq-requires c =
     let w = ready_wf s in
     let o = opt_of w c.args.t.0 s.fit in
     let l = none_law w {L = Unit {0}} c.elem_of-ty.result.0 (rw c.elem_of-ty.ensures (opt_type w c.args.t.0 s.fit)) (ap (ty_of _) c.elem_of-ty.ensures) in
-    ready_next (λ a n. Alike a c.args.t.0 n) (ap term_reply c.in-At.is) c.none_of.ensures s.arena l.wf (alike (typed_ext w l.ext o) l.typed)
+    ready_next (λ a n. Alike a c.args.t.0 n) c.args.arena.now _ c.in_ok-n.ensures s.arena l.wf (alike (typed_ext w l.ext o) l.typed)
 
-pub returns-in-At : goal.returns-in-At
+pub returns : goal.returns
 unfolding eq_none
-returns-in-At c =
-    picked (did_then (ap term_reply c.in-At.is) c.none_of.ensures (λ b n. eq_t b c.args.t.0 n) c.eq.ensures) (rw c.elem_of-ty.ensures)
+returns c =
+    builds_as (builds_then c.args.arena.now _ c.in_ok-n.ensures (λ b n. eq_t b c.args.t.0 n) c.eq.ensures) (rw c.elem_of-ty.ensures)
 
-pub returns-in-Full : goal.returns-in-Full
+pub returns-in_err-n : goal.returns-in_err-n
 unfolding eq_none
-returns-in-Full c =
+returns-in_err-n c =
     let s = c.requires in
     let w = ready_wf s in
     let o = opt_of w c.args.t.0 s.fit in
     let l = none_law w {L = Unit {0}} _ (opt_type w c.args.t.0 s.fit) refl in
-    did_stop (ap term_reply c.in-Full.is) c.none_of.ensures (rw c.elem_of-ty.ensures (eq_law l.wf c.args.t.0 _ (typed_ext w l.ext o) l.typed).ext)
+    term_stop c.args.arena.now _ c.from_residual.result c.from_residual.ensures.0 c.in_err-n.ensures (rw c.elem_of-ty.ensures (eq_law l.wf c.args.t.0 _ (typed_ext w l.ext o) l.typed).ext)

@@ -1,5 +1,5 @@
 use mathlib.Core.Bool.{true}
-use mathlib.Core.Path.{◌≡◌, ap}
+use mathlib.Core.Path.{◌≡◌}
 use Rattle.factory.specs.Fit.{Typed}
 use Rattle.factory.specs.Helpers.{guarded, if_some}
 use Rattle.factory.proofs.Calls.{ready_wf, ready_next}
@@ -7,11 +7,10 @@ use Rattle.factory.proofs.Guards.{guarded_law}
 use Rattle.factory.proofs.Law.{typed_ext, typed_self}
 use Rattle.factory.proofs.Operands.{opt_of}
 use Rattle.factory.proofs.Options.{is_none_law}
-use Rattle.nodes.specs.Replies.{term_reply}
 use Rattle.arena.specs.Values.{tbool}
 use Rattle.arena.specs.WellFormed.{is_term}
 use Rattle.arena.proofs.Chain.{term_ext}
-use Rattle.arena.proofs.Steps.{did_then, did_stop}
+use Rattle.nodes.proofs.Steps.{builds_then, term_stop}
 use Rattle.factory_helpers.proofs.if_some.Goals as goal
 
 pub guarded-requires : goal.guarded-requires
@@ -19,17 +18,17 @@ guarded-requires c =
     let s = c.requires in
     let w = ready_wf s in
     let l = is_none_law w c.args.g.0 (opt_of w c.args.g.0 s.fit.0) in
-    ready_next (λ a n. Typed a tbool n × is_term a c.args.t.0 ≡ true) (ap term_reply c.in-At.is) c.is_none.ensures s.arena l.wf
+    ready_next (λ a n. Typed a tbool n × is_term a c.args.t.0 ≡ true) c.args.arena.now _ c.in_ok-n.ensures s.arena l.wf
     (l.typed, term_ext l.ext c.args.t.0 s.fit.1)
 
-pub returns-in-At : goal.returns-in-At
+pub returns : goal.returns
 unfolding if_some
-returns-in-At c = did_then (ap term_reply c.in-At.is) c.is_none.ensures (λ b n. guarded b n c.args.t.0) c.guarded.ensures
+returns c = builds_then c.args.arena.now _ c.in_ok-n.ensures (λ b n. guarded b n c.args.t.0) c.guarded.ensures
 
-pub returns-in-Full : goal.returns-in-Full
+pub returns-in_err-n : goal.returns-in_err-n
 unfolding if_some
-returns-in-Full c =
+returns-in_err-n c =
     let s = c.requires in
     let w = ready_wf s in
     let l = is_none_law w c.args.g.0 (opt_of w c.args.g.0 s.fit.0) in
-    did_stop (ap term_reply c.in-Full.is) c.is_none.ensures (guarded_law l.wf _ c.args.t.0 l.typed (typed_ext w l.ext (typed_self c.args.t.0 s.fit.1))).ext
+    term_stop c.args.arena.now _ c.from_residual.result c.from_residual.ensures.0 c.in_err-n.ensures (guarded_law l.wf _ c.args.t.0 l.typed (typed_ext w l.ext (typed_self c.args.t.0 s.fit.1))).ext

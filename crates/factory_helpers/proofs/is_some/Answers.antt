@@ -1,7 +1,5 @@
-use mathlib.Core.Path.{ap}
 use Rattle.arena.specs.Values.{tbool}
-use Rattle.nodes.specs.Replies.{term_reply}
-use Rattle.arena.proofs.Steps.{did_then, did_stop}
+use Rattle.nodes.proofs.Steps.{builds_then, term_stop}
 use Rattle.factory.specs.Fit.{Typed}
 use Rattle.factory.specs.Core.{not_t}
 use Rattle.factory.specs.Helpers.{is_some}
@@ -16,17 +14,17 @@ not-requires c =
     let s = c.requires in
     let w = ready_wf s in
     let l = is_none_law w c.args.t.0 (opt_of w c.args.t.0 s.fit) in
-    ready_next (λ a n. Typed a tbool n) (ap term_reply c.in-At.is) c.is_none.ensures s.arena l.wf l.typed
+    ready_next (λ a n. Typed a tbool n) c.args.arena.now _ c.in_ok-n.ensures s.arena l.wf l.typed
 
-pub returns-in-At : goal.returns-in-At
+pub returns : goal.returns
 unfolding is_some
-returns-in-At c =
-    did_then (ap term_reply c.in-At.is) c.is_none.ensures not_t c.not.ensures
+returns c =
+    builds_then c.args.arena.now _ c.in_ok-n.ensures not_t c.not.ensures
 
-pub returns-in-Full : goal.returns-in-Full
+pub returns-in_err-n : goal.returns-in_err-n
 unfolding is_some
-returns-in-Full c =
+returns-in_err-n c =
     let s = c.requires in
     let w = ready_wf s in
     let l = is_none_law w c.args.t.0 (opt_of w c.args.t.0 s.fit) in
-    did_stop (ap term_reply c.in-Full.is) c.is_none.ensures (not_law l.wf _ l.typed).ext
+    term_stop c.args.arena.now _ c.from_residual.result c.from_residual.ensures.0 c.in_err-n.ensures (not_law l.wf _ l.typed).ext

@@ -1,9 +1,6 @@
-use Rattle.factory.proofs.Calls.{term_pos, ready_wf}
+use Rattle.factory.proofs.Calls.{ready_wf}
 use Rattle.factory.proofs.Operands.{type_pos}
 use Rattle.factory_makers.proofs.elem_of.Goals as goal
-
-pub type_of-ty-requires : goal.type_of-ty-requires
-type_of-ty-requires c = record { below = c.requires.arena.below; bound = term_pos _ _ c.requires.fit }
 
 pub arg_of-requires : goal.arg_of-requires
 arg_of-requires c =

@@ -9,7 +9,7 @@ use Rattle.factory.proofs.Picks.{types_front}
 use Rattle.arena.specs.Lists.{all, odds}
 use Rattle.arena.proofs.Fields.{fields_of-all}
 use Rattle.arena.proofs.Insertion.{holds-length}
-use Rattle.arena.proofs.Steps.{picked}
+use Rattle.nodes.proofs.Steps.{builds_as}
 use Rattle.factory_makers.proofs.record_of.Goals as goal
 
 pub slice_bounds-field_types-end : goal.slice_bounds-field_types-end
@@ -20,7 +20,7 @@ unfolding all odds
 field_types-requires c =
     let w = ready_wf c.requires.ready in
     let h = c.fields-n.ensures in
-    record { below = c.requires.ready.arena.below; run_value = rw h.front (fields_of-all _ [] c.args.list.now refl c.requires.ready.fit.0); run_len = rw h.front (fields_even c.args.list.now c.requires.list_len_bound c.requires.ready.fit.1); run_in_bounds = (let f = holds-length h in let g = h.fits in omega arith) }
+    record { ready = record { arena = c.requires.ready.arena; fit = rw h.front (fields_of-all _ [] c.args.list.now refl c.requires.ready.fit.0) }; run_len = rw h.front (fields_even c.args.list.now c.requires.list_len_bound c.requires.ready.fit.1); run_in_bounds = (let f = holds-length h in let g = h.fits in omega arith) }
 
 pub slice_bounds-typed_node-end : goal.slice_bounds-typed_node-end
 slice_bounds-typed_node-end c = sym (length-take-le _ _ (let h = holds-length c.fields-n.ensures in let g = c.field_types.ensures.fits in omega arith))
@@ -36,4 +36,4 @@ typed_node-requires c =
 
 pub returns : goal.returns
 unfolding record_of
-returns c = picked c.typed_node.ensures (rw (types_front _ c.fields-n.ensures c.field_types.ensures, c.fields-n.ensures.front))
+returns c = builds_as c.typed_node.ensures (rw (types_front _ c.fields-n.ensures c.field_types.ensures, c.fields-n.ensures.front))

@@ -1,7 +1,7 @@
 use Rattle.factory.specs.Makers.{set_of}
 use Rattle.factory.proofs.Calls.{ready_wf}
 use Rattle.arena.proofs.Insertion.{holds-length}
-use Rattle.arena.proofs.Steps.{picked}
+use Rattle.nodes.proofs.Steps.{builds_as}
 use Rattle.arena.proofs.View.{is_set}
 use Rattle.arena.proofs.Whole.{good_is}
 use Rattle.factory_makers.proofs.set_of.Goals as goal
@@ -14,4 +14,4 @@ typed_node-requires c = record { arena = c.requires.ready.arena; tmembers_value 
 
 pub returns : goal.returns
 unfolding set_of
-returns c = picked c.typed_node.ensures (rw c.sorted-n.ensures.front)
+returns c = builds_as c.typed_node.ensures (rw c.sorted-n.ensures.front)

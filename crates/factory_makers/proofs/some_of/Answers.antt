@@ -2,11 +2,9 @@ use Rattle.arena.proofs.View.{is_opt_lem}
 use Rattle.arena.proofs.Whole.{good_is}
 use Rattle.arena.proofs.Chain.{term_type}
 use Rattle.factory.specs.Makers.{some_of}
-use Rattle.factory.proofs.Calls.{term_pos, ready_wf}
+use Rattle.factory.proofs.Calls.{ready_wf}
+use Rattle.nodes.proofs.Steps.{builds_as}
 use Rattle.factory_makers.proofs.some_of.Goals as goal
-
-pub type_of-requires : goal.type_of-requires
-type_of-requires c = record { below = c.requires.arena.below; bound = term_pos _ _ c.requires.fit }
 
 pub typed_node-requires : goal.typed_node-requires
 typed_node-requires c =
@@ -15,4 +13,4 @@ typed_node-requires c =
 pub returns : goal.returns
 unfolding some_of
 returns c =
-    rw (← c.type_of.ensures) c.typed_node.ensures
+    builds_as c.typed_node.ensures (rw (← c.type_of.ensures))
