@@ -74,8 +74,8 @@ pub fn write_answer(out: &mut [u8], end: usize, answer: Answer) -> usize
     ensures { Puts out.old end (line_of (reply_of answer)) result out.new }
 {
     match answer {
-        Answer::Accepted(position, mark) => write_ok(out, end, position, mark as u64),
-        Answer::Refused(number) => write_refused(out, end, number),
+        Ok(accepted) => write_ok(out, end, accepted.position, accepted.mark as u64),
+        Err(refusal) => write_refused(out, end, refusal.number()),
     }
 }
 
@@ -84,7 +84,7 @@ pub fn next_mark(mark: usize, answer: Answer) -> usize
     ensures { result ≡ mark_after mark (reply_of answer) }
 {
     match answer {
-        Answer::Accepted(_, next) => next,
-        Answer::Refused(_) => mark,
+        Ok(accepted) => accepted.mark,
+        Err(_) => mark,
     }
 }
