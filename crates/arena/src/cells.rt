@@ -1,7 +1,6 @@
 // The lent cells: made fresh, cleared, and read. Every function here scans or reads; none but `fresh` and `clear_back` writes.
 ghost use Rattle.std.specs.Prelude.{◌≡◌, ◌≤◌};
 ghost use Rattle.arena.specs.Nodes.{kind_at, type_at, par_at, mem_at, arg_at};
-ghost use Rattle.arena.specs.Cells.{used};
 ghost use Rattle.arena.specs.WellFormed.{Below, is_term, is_type};
 ghost use Rattle.arena.specs.Fresh.{cleared, Freshened};
 

@@ -5,15 +5,14 @@
 
 ghost use Rattle.std.specs.Prelude.{◌≡◌, true, ◌*◌, ◌%◌, ◌≤◌, length};
 ghost use Rattle.arena.specs.Lists.{all, evens, odds};
-ghost use Rattle.arena.specs.Nodes.{type_at, mem_at, out, ◌⨟◌};
-ghost use Rattle.arena.specs.Cells.{used};
-ghost use Rattle.arena.specs.WellFormed.{small, is_term, is_type};
+ghost use Rattle.arena.specs.Nodes.{out, ◌⨟◌};
+ghost use Rattle.arena.specs.WellFormed.{small, is_term};
 ghost use Rattle.arena.specs.Values.{tbool};
 ghost use Rattle.arena.specs.Runs.{Holds};
-ghost use Rattle.nodes.specs.Builds.{nodes_of, Formed, Builds, term_reply};
+ghost use Rattle.nodes.specs.Builds.{nodes_of, Builds, term_reply};
 ghost use Rattle.factory.specs.Fit.{Typed, OfKind, Options, Ready};
 ghost use Rattle.factory.specs.SetSteps.{record_get};
-ghost use Rattle.compiler.specs.Compiler.{compiled_not, neg_unless, compiled_neg, compiled_is_empty, gotten, inner as inner_of, if_all_given, record_if_all, compiled_record, fields_at, has_field, has_some, compiled_has_attr, optioned as optionedBy, compiled_get_attr};
+ghost use Rattle.compiler.specs.Compiler.{compiled_not, neg_unless, compiled_neg, compiled_is_empty, gotten, inner as inner_of, if_all_given, record_if_all, compiled_record, has_field, has_some, compiled_has_attr, optioned as optionedBy, compiled_get_attr};
 ghost use Rattle.compiler.specs.Buffers.{fields_reply, HoldsInner, HasField, OptionalField};
 ghost use Rattle.table.specs.Table.{row};
 ghost use Rattle.table.specs.Forms.{Passes};

@@ -3,7 +3,7 @@
 #![tactic(auto, using(factory::proofs::Calls::term_pos))]
 
 ghost use Rattle.std.specs.Prelude.{◌≡◌, ◌≤◌, drop};
-ghost use Rattle.nodes.specs.Builds.{nodes_of, Formed, Builds, term_reply, type_reply};
+ghost use Rattle.nodes.specs.Builds.{Builds, term_reply, type_reply};
 ghost use Rattle.factory.specs.Fit.{Ready};
 ghost use Rattle.table.specs.Table.{row};
 ghost use Rattle.table.specs.Forms.{Passes};

@@ -9,8 +9,10 @@ use mathlib.Core.List.{List, [], ◌∷◌, ◌++◌, append_assoc, append-nil}
 use lib.Dec.{eqb}
 use lib.ListN.{length, take, drop, set, get_or, length-set, length-append, drop_of_length-le}
 use lib.Seq.{set_split, length-take-le, take-suc-set, drop-set-lt}
-use borrow.Author.Tests.{ne_eqb}
-use Rattle.arena.specs.Lists.{all, odds, mem?, common, field, field_d}
+use borrow.Author.Tests.{eq-eqb, ne_eqb, eqb-true, eqb-false}
+use Rattle.std.specs.Prelude.{nat_eq, ◌||◌}
+use Rattle.std.specs.List.{list_any}
+use Rattle.arena.specs.Lists.{all, any, odds, mem?, common, field, field_d}
 use Rattle.arena.specs.Nodes.{Nodes, type_at, field_types}
 use Rattle.arena.specs.WellFormed.{is_term}
 use Rattle.arena.specs.Runs.{Holds}
@@ -96,3 +98,16 @@ nil_length (x ∷ l) = ne_eqb (length (x ∷ l)) 0 (λ e. omega arith)
 pub field_none : (l : List ℕ) (k : ℕ) → field l k ≡ none → field_d l k ≡ 0
 unfolding field_d
 field_none l k e = ap (λ (f : Option ℕ). elim f [ none ↦ 0 | some p ↦ p ]) e
+
+-- what `contains` answers
+turned : (x y : ℕ) → eqb y x ≡ eqb x y
+turned x y = go (eqb x y) refl
+  where
+    go : (b : Bool) → eqb x y ≡ b → eqb y x ≡ b
+    go true e = eq-eqb y x (sym (eqb-true x y e))
+    go false e = ne_eqb y x (λ h. eqb-false x y e (sym h))
+
+pub contains_mem : (x : ℕ) (ys : List ℕ) → list_any (λ y. nat_eq y x) ys ≡ mem? x ys
+unfolding any
+contains_mem x [] = refl
+contains_mem x (y ∷ ys) = λ i. turned x y i || contains_mem x ys i

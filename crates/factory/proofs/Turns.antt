@@ -1,5 +1,5 @@
 -- any_none, one option at a time: what is left to do, and what the whole then is. Assumes nothing.
-use mathlib.Core.Path.{◌≡◌, subst}
+use mathlib.Core.Path.{subst}
 use Prim.Native.Nat.{ℕ, ◌+◌, ◌≤◌, ◌<◌}
 use Rattle.std.specs.Prelude.{Option, Some, None, Result, IsErr}
 use lib.ListN.{length, drop, get_or, drop_of_length-le}

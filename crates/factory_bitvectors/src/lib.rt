@@ -4,9 +4,8 @@
 
 ghost use Rattle.std.specs.Prelude.{◌≡◌, true, ◌+◌, ◌≤◌};
 ghost use Rattle.arena.specs.Nodes.{width_at};
-ghost use Rattle.arena.specs.Cells.{used};
 ghost use Rattle.arena.specs.WellFormed.{is_term};
-ghost use Rattle.nodes.specs.Builds.{nodes_of, Formed, Builds, term_reply};
+ghost use Rattle.nodes.specs.Builds.{nodes_of, Builds, term_reply};
 ghost use Rattle.factory.specs.Fit.{Alike, OfKind, Ready};
 ghost use Rattle.factory.specs.Bitvectors.{both_bv, bvneg_t, bvapp_t, bvcmp_t, bvnego_t, bvso_t, extended_to, zero_extend_t};
 

@@ -2,10 +2,9 @@
 
 #![tactic(auto, using(factory::proofs::Calls::term_pos))]
 
-ghost use Rattle.std.specs.Prelude.{◌≡◌, true, ◌&&◌, ◌||◌, ◌≤◌, eqb};
-ghost use Rattle.arena.specs.Cells.{used};
+ghost use Rattle.std.specs.Prelude.{◌≡◌, true, ◌||◌, ◌≤◌, eqb};
 ghost use Rattle.arena.specs.Values.{tbool};
-ghost use Rattle.nodes.specs.Builds.{nodes_of, Formed, Builds, term_reply};
+ghost use Rattle.nodes.specs.Builds.{nodes_of, Builds, term_reply};
 ghost use Rattle.factory.specs.Fit.{Typed, Alike, Ready};
 ghost use Rattle.factory.specs.Core.{not_t, opposites as opposed, junction, and_t, or_t, implies as impliesT, eq_simplify, eq_t, ite_simplify, ite_of_somes, ite_t};
 

@@ -3,21 +3,21 @@
 #![tactic(auto, using(factory::proofs::Calls::term_pos))]
 
 ghost use Rattle.std.specs.Prelude.{◌≡◌, true, ◌&&◌};
-ghost use Rattle.arena.specs.Nodes.{kind_at, elem_at};
-ghost use Rattle.arena.specs.Cells.{used};
+ghost use Rattle.arena.specs.Nodes.{kind_at};
 ghost use Rattle.arena.specs.WellFormed.{is_term};
 ghost use Rattle.arena.specs.Walks.{is_lit};
-ghost use Rattle.nodes.specs.Builds.{nodes_of, Formed, Builds, term_reply};
+ghost use Rattle.nodes.specs.Builds.{nodes_of, Builds, term_reply};
 ghost use Rattle.factory.specs.Fit.{Alike, OfKind, Ready};
 ghost use Rattle.factory.specs.SetSteps.{is_set, empty_at, set_member, both_sets, set_subset, inter_of, set_inter, set_is_empty, not_empty, set_intersects, option_get, record_get};
 
-use crate::runs::{common, contains, contains_all, field_or_0};
+use crate::lists::{common, contains, contains_all};
 use arena::{TermPos, TypePos};
 use factory_core::{eq, not};
 use factory_makers::{BOOL, FALSE, TRUE, app1, app2, bool_at, both_literal, elem_of};
 use nodes::{Arena, Full};
+use runs::field;
 
-pub mod runs;
+pub mod lists;
 
 // ---------- CVC theory of finite sets (`FS`) ----------
 
@@ -168,9 +168,9 @@ pub fn record_get(arena: &mut Arena<'_>, k: u64, t: TermPos) -> Result<TermPos, 
 {
     if arena.kind_of(t.0) == 21 {
         let members = arena.members_of(t.0);
-        return Ok(TermPos(field_or_0(members, k)));
+        return Ok(TermPos(field(members, k).unwrap_or(0)));
     }
     let of = arena.type_of(t);
-    let ty = TypePos(field_or_0(arena.members_of(of.0), k));
+    let ty = TypePos(field(arena.members_of(of.0), k).unwrap_or(0));
     arena.term_node(156, ty, k, &[t.0])
 }

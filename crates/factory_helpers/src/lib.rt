@@ -6,7 +6,7 @@ ghost use Rattle.std.specs.Prelude.{◌≡◌, true};
 ghost use Rattle.arena.specs.WellFormed.{is_term};
 ghost use Rattle.arena.specs.Values.{tbool, topt};
 ghost use Rattle.arena.specs.Meaning.{ty_at};
-ghost use Rattle.nodes.specs.Builds.{nodes_of, Formed, Builds, term_reply};
+ghost use Rattle.nodes.specs.Builds.{Builds, term_reply};
 ghost use Rattle.factory.specs.Fit.{Typed, OfKind, Options, Ready};
 ghost use Rattle.factory.specs.Helpers.{eq_none, is_none_ite, is_none, is_some, or_some, if_false, or_none, if_true, none_or, guarded as guardedBy, if_some, or_is_none, any_none, if_all_some};
 

@@ -3,9 +3,8 @@
 
 #![tactic(auto, using(factory::proofs::Calls::term_pos))]
 
-ghost use Rattle.std.specs.Prelude.{◌≡◌, true, ◌&&◌, ◌||◌, [], ◌∷◌, ◌≤◌, ◌%◌, length};
-ghost use Rattle.arena.specs.Cells.{used};
-ghost use Rattle.arena.specs.WellFormed.{small, is_type, is_term, IsArena, Below};
+ghost use Rattle.std.specs.Prelude.{◌≡◌, true, ◌&&◌, [], ◌∷◌, ◌≤◌, ◌%◌, length};
+ghost use Rattle.arena.specs.WellFormed.{small, is_type, is_term};
 ghost use Rattle.arena.specs.Walks.{is_lit, set_free};
 ghost use Rattle.arena.specs.Lists.{all, evens, odds};
 ghost use Rattle.nodes.specs.Builds.{nodes_of, Formed, Builds, term_reply, type_reply};
@@ -39,8 +38,8 @@ pub fn both_literal(arena: &Arena<'_>, t: TermPos, u: TermPos) -> bool
     requires { Ready (λ a. is_term a t.0 ≡ true × is_term a u.0 ≡ true) arena.now }
     ensures { result ≡ (is_lit (nodes_of arena.now) t.0 && is_lit (nodes_of arena.now) u.0) }
 {
-    if is_literal(arena.cells, arena.mark, t.0 as usize) {
-        return is_literal(arena.cells, arena.mark, u.0 as usize);
+    if is_literal(&arena.view(), t.0 as usize) {
+        return is_literal(&arena.view(), u.0 as usize);
     }
     false
 }

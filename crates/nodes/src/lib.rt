@@ -8,6 +8,7 @@ ghost use Rattle.arena.specs.Cells.{cells_of, node_here, after};
 ghost use Rattle.arena.specs.WellFormed.{good_node};
 ghost use Rattle.arena.specs.Did.{put_typed};
 ghost use Rattle.nodes.specs.Node.{node_of, spot};
+ghost use Rattle.arena.specs.View.{nodes_of as seen_nodes};
 
 use arena::cells::View;
 use arena::{HEADER, TermPos, TypePos};
@@ -70,8 +71,7 @@ impl Arena<'_> {
     // The nodes, to read.
     pub fn view(&self) -> View<'_>
         requires { IsRead self.now }
-        ensures cells { result.cells.now ≡ self.now.cells.now }
-        ensures mark { result.mark ≡ self.now.mark }
+        ensures { seen_nodes result ≡ nodes_of self.now }
     {
         View {
             cells: self.cells,
