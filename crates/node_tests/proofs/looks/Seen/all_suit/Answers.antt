@@ -3,14 +3,14 @@ use Rattle.std.specs.Slice.Iter.{iter_rest}
 use Rattle.std.proofs.iter.runs.Made.{seen}
 use Rattle.arena.specs.Lists.{all}
 use Rattle.runs.proofs.Gives.{gives_slice, gives_skip, gives_heads, heads_held, all_gives}
-use Rattle.node_tests.specs.Seeing.{nodes_in}
+use Rattle.arena.specs.View.{nodes_of}
 use Rattle.node_tests.specs.Decide.{wanted}
 use Rattle.node_tests.proofs.looks.Seen.all_suit.Goals as goal
 
 pub returns : goal.returns
 returns c =
     let s = c.requires in
-    let test = wanted (nodes_in c.args.self.now) c.args.want in
+    let test = wanted (nodes_of c.args.self.now.nodes) c.args.want in
     let p = c.all.ensures.runs in
     let q = c.step_by.ensures.runs p.0 (seen _) p.1 in
     let r = c.skip.ensures.runs q.0 (seen _) q.1 in

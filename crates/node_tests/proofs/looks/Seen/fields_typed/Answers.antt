@@ -7,7 +7,7 @@ use Rattle.arena.specs.Nodes.{Nodes, type_at, field_types}
 use Rattle.arena.proofs.Loops.{list_length}
 use Rattle.runs.proofs.Pairs.{paired}
 use Rattle.node_tests.proofs.Stands.{types_length}
-use Rattle.node_tests.specs.Seeing.{nodes_in}
+use Rattle.arena.specs.View.{nodes_of}
 use Rattle.node_tests.proofs.looks.Seen.fields_typed.Goals as goal
 use Rattle.node_tests.proofs.looks.Seen.fields_typed.Goals.{then-ty-field-via-then-ty-field, then-ty-field-via-else-ty-field+then-ty-type_at}
 
@@ -29,13 +29,13 @@ none_left a (t ∷ ts) [] h l = absurd (omega arith)
 none_left a (t ∷ ts) (x ∷ []) h l = absurd (omega arith)
 
 pub returns-then-types-run : goal.returns-then-types-run
-returns-then-types-run c = sym (list_length _ _ (λ z. c.if-types-run.true (z ∙ types_length (nodes_in c.args.self.now) c.args.run.now)))
+returns-then-types-run c = sym (list_length _ _ (λ z. c.if-types-run.true (z ∙ types_length (nodes_of c.args.self.now.nodes) c.args.run.now)))
 
 pub returns-then-ty-field : goal.returns-then-ty-field
 returns-then-ty-field c =
     let i = c.loop-ty.invariant in
     let s = c.in-Some.ensures.steps in
-    let e = i.left ∙ turn (nodes_in c.args.self.now) _ _ _ _ _ _ s.0.1.0 (s.0.1.1 ∙ i.pairs) s.1.1.0 (s.1.1.1 ∙ i.pairs_too) in
+    let e = i.left ∙ turn (nodes_of c.args.self.now.nodes) _ _ _ _ _ _ s.0.1.0 (s.0.1.1 ∙ i.pairs) s.1.1.0 (s.1.1.1 ∙ i.pairs_too) in
     sym (e ∙ elim c.then-ty-field.branch [
       | then-ty-field-via-then-ty-field w ↦ rw (ne_eqb _ _ w.if-ty-field.true) refl
       | then-ty-field-via-else-ty-field+then-ty-type_at w ↦ rw (eq-eqb _ _ w.if-ty-field.false, ne_eqb _ _ (λ z. w.if-ty-type_at.true (z ∙ sym w.type_at.ensures))) refl
@@ -47,7 +47,7 @@ loop-ty-preserved c =
     let s = c.in-Some.ensures.steps in
     let two = s.0.1.1 ∙ i.pairs in
     let two_too = s.1.1.1 ∙ i.pairs_too in
-    let e = i.left ∙ turn (nodes_in c.args.self.now) _ _ _ _ _ _ s.0.1.0 two s.1.1.0 two_too in
+    let e = i.left ∙ turn (nodes_of c.args.self.now.nodes) _ _ _ _ _ _ s.0.1.0 two s.1.1.0 two_too in
     record {
       can = (omega (arith, s.0.0, i.pairs), omega (arith, s.1.0, i.pairs_too));
       ends = tt;
@@ -62,4 +62,4 @@ returns c =
     let i = c.loop-ty.invariant in
     let few : length (chunks_exact_rest (zip_second c.loop-ty.ty-iterator)) < 2 =
     elim c.in-None.ensures.steps [ inl u ↦ omega (arith, u.1.1.0, i.pairs, i.long) | inr u ↦ omega (arith, u.1.1.0, i.pairs_too) ] in
-    none_left (nodes_in c.args.self.now) _ _ i.long few ∙ sym i.left
+    none_left (nodes_of c.args.self.now.nodes) _ _ i.long few ∙ sym i.left

@@ -3,7 +3,7 @@ use Rattle.std.specs.Iterator.Adapters.{zip_first, zip_second}
 use Rattle.std.specs.Slice.Iter.{chunks_exact_rest, chunks_exact_size}
 use Rattle.arena.specs.Lists.{same_list}
 use Rattle.arena.specs.Nodes.{field_types}
-use Rattle.node_tests.specs.Seeing.{nodes_in}
+use Rattle.arena.specs.View.{nodes_of}
 use Rattle.node_tests.proofs.looks.Seen.fields_typed.Given as goal
 
 abbrev pub invariant-loop-ty : goal.invariant-loop-ty
@@ -16,5 +16,5 @@ invariant-loop-ty l =
       pairs : chunks_exact_size types ≡ 2;
       pairs_too : chunks_exact_size fields ≡ 2;
       long : length (chunks_exact_rest types) ≡ length (chunks_exact_rest fields) / 2 * 2;
-      left : same_list l.types (field_types (nodes_in l.self) l.run) ≡ same_list (chunks_exact_rest types) (field_types (nodes_in l.self) (chunks_exact_rest fields));
+      left : same_list l.types (field_types (nodes_of l.self.nodes) l.run) ≡ same_list (chunks_exact_rest types) (field_types (nodes_of l.self.nodes) (chunks_exact_rest fields));
     }
