@@ -1,32 +1,34 @@
-use mathlib.Core.Path.{◌∙◌}
+use mathlib.Core.Path.{◌≡◌, ◌∙◌}
 use native.Mathlib.Omega.{arith}
-use Prim.Native.Nat.{◌+◌, ◌%◌}
+use Prim.Native.Nat.{◌+◌, ◌-◌, ◌%◌}
 use lib.ListN.{length-set}
 use Rattle.codec.proofs.Groups.{groups_some}
-use Rattle.codec.proofs.Turns.{group_more, group_end}
+use Rattle.codec.proofs.Turns.{groups_left, groups-last, group_more, group_end}
 use Rattle.codec.proofs.Putting.{sets_puts}
 use Rattle.codec.proofs.put_groups.Goals as goal
 
+pub overflow_sub-last : goal.overflow_sub-last
+overflow_sub-last c = omega (arith, groups_some c.args.n)
+
 pub bounds-out-next : goal.bounds-out-next
-bounds-out-next c = omega (arith, groups_some c.loop-rest.rest)
+bounds-out-next c = omega arith
 
-pub overflow_add-next : goal.overflow_add-next
-overflow_add-next c = omega (arith, groups_some c.loop-rest.rest)
-
-pub loop-rest-preserved : goal.loop-rest-preserved
-loop-rest-preserved c =
-    let l = c.loop-rest in
-    let t = group_more l.out _ l.next l.rest _ l.invariant.1 l.invariant.2 c.loop-rest-test.true in
+pub loop-next-preserved : goal.loop-next-preserved
+loop-next-preserved c =
+    let l = c.loop-next in
+    let t = group_more l.out _ l.next l.rest _ l.invariant.1 l.invariant.2 (groups_left l.rest (omega arith)) in
     (length-set l.out l.next (128 + l.rest % 128) ∙ l.invariant.0, t.0, t.1)
 
-pub bounds-out-next-2 : goal.bounds-out-next-2
-bounds-out-next-2 c = omega (arith, groups_some c.loop-rest.rest)
+pub overflow_cast-out-2 : goal.overflow_cast-out-2
+overflow_cast-out-2 c = let t = groups-last c.loop-next.rest (omega arith) in omega arith
 
-pub overflow_add-result : goal.overflow_add-result
-overflow_add-result c = omega (arith, groups_some c.loop-rest.rest)
+pub bounds-out-last : goal.bounds-out-last
+bounds-out-last c = omega (arith, groups_some c.loop-next.rest)
 
 pub returns : goal.returns
 returns c =
-    let l = c.loop-rest in
-    let t = group_end l.out _ l.next l.rest _ l.invariant.1 l.invariant.2 c.loop-rest-test.false in
-    sets_puts c.requires t.0 t.1
+    let l = c.loop-next in
+    let g = groups_some l.rest in
+    let t = group_end l.out _ l.next l.rest _ l.invariant.1 l.invariant.2 (groups-last l.rest (omega arith)) in
+    let last : c.args.at + c.group_count.result - 1 ≡ l.next = omega arith in
+    rw last (sets_puts c.requires t.0 t.1)
