@@ -15,12 +15,9 @@ fn write_bytes(out: &mut [u8], at: usize, bytes: &[u8]) -> usize
     requires { at + length bytes.now ≤ length out.old }
     ensures { Puts out.old at bytes.now result out.new }
 {
-    let mut i: usize = 0;
-    while i < bytes.len() {
-        out[at + i] = bytes[i];
-        i += 1;
-    }
-    at + i
+    let end = at + bytes.len();
+    out[at..end].copy_from_slice(bytes);
+    end
 }
 
 // A number in decimal, at most 20 digits, from the last digit to the first.
@@ -29,14 +26,11 @@ pub fn write_decimal(out: &mut [u8], at: usize, n: u64) -> usize
     ensures { Puts out.old at (decimal n) result out.new }
 {
     let end = at + codec::digit_count(n, 10);
-    let mut last = end - 1;
     let mut rest = n;
-    while rest >= 10 {
-        out[last] = (48 + rest % 10) as u8;
-        last -= 1;
+    for place in (at..end).rev() {
+        out[place] = (48 + rest % 10) as u8;
         rest = rest / 10;
     }
-    out[last] = (48 + rest) as u8;
     end
 }
 
