@@ -10,6 +10,9 @@ ghost use Rattle.answers.specs.Replies.{line_of};
 
 use table::Answer;
 
+// The writers go from a place in a lent buffer to the next: `Puts` says what each leaves, and where. A struct that held both would
+// ask each function for one more clause, on the buffer that it stands for.
+
 // Bytes at a place.
 fn write_bytes(out: &mut [u8], at: usize, bytes: &[u8]) -> usize
     requires { at + length bytes.now ≤ length out.old }
@@ -44,6 +47,7 @@ fn write_field(out: &mut [u8], at: usize, bytes: &[u8], n: u64) -> usize
 }
 
 // The line of an accepted instruction: its position and the mark.
+#[tactic(auto, using(crate::proofs::Answers::field_most))]
 pub fn write_ok(out: &mut [u8], at: usize, position: u64, mark: u64) -> usize
     requires { at + 45 ≤ length out.old }
     ensures { Puts out.old at (ok_line position mark) result out.new }
@@ -54,6 +58,7 @@ pub fn write_ok(out: &mut [u8], at: usize, position: u64, mark: u64) -> usize
 }
 
 // The line of a refused one.
+#[tactic(auto, using(crate::proofs::Answers::field_most))]
 pub fn write_refused(out: &mut [u8], at: usize, number: u64) -> usize
     requires { at + 29 ≤ length out.old }
     ensures { Puts out.old at (refused_line number) result out.new }

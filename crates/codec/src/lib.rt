@@ -112,7 +112,7 @@ pub fn read_instruction(bytes: &[u8], at: usize) -> Option<Decoded>
     })
 }
 
-// How many digits a number has in a base.
+// How many digits a number has in a base. What is counted is the loop's turns, so no range gives them.
 pub fn digit_count(n: u64, base: u64) -> usize
     requires { 1 < base }
     ensures { result ≡ length (digits base n) }

@@ -1,7 +1,6 @@
-use mathlib.Core.Path.{◌≡◌, ◌∙◌}
+use mathlib.Core.Path.{◌≡◌}
 use native.Mathlib.Omega.{arith}
-use Prim.Native.Nat.{◌+◌, ◌-◌, ◌%◌}
-use lib.ListN.{length-set}
+use Prim.Native.Nat.{◌+◌, ◌-◌}
 use Rattle.codec.proofs.Groups.{groups_some}
 use Rattle.codec.proofs.Turns.{groups_left, groups-last, group_more, group_end}
 use Rattle.codec.proofs.Putting.{sets_puts}
@@ -10,14 +9,10 @@ use Rattle.codec.proofs.put_groups.Goals as goal
 pub overflow_sub-last : goal.overflow_sub-last
 overflow_sub-last c = omega (arith, groups_some c.args.n)
 
-pub bounds-out-next : goal.bounds-out-next
-bounds-out-next c = omega arith
-
 pub loop-next-preserved : goal.loop-next-preserved
 loop-next-preserved c =
     let l = c.loop-next in
-    let t = group_more l.out _ l.next l.rest _ l.invariant.1 l.invariant.2 (groups_left l.rest (omega arith)) in
-    (length-set l.out l.next (128 + l.rest % 128) ∙ l.invariant.0, t.0, t.1)
+    group_more l.out _ l.next l.rest _ l.invariant.0 l.invariant.1 (groups_left l.rest (omega arith))
 
 pub overflow_cast-out-2 : goal.overflow_cast-out-2
 overflow_cast-out-2 c = let t = groups-last c.loop-next.rest (omega arith) in omega arith
@@ -29,6 +24,6 @@ pub returns : goal.returns
 returns c =
     let l = c.loop-next in
     let g = groups_some l.rest in
-    let t = group_end l.out _ l.next l.rest _ l.invariant.1 l.invariant.2 (groups-last l.rest (omega arith)) in
+    let t = group_end l.out _ l.next l.rest _ l.invariant.0 l.invariant.1 (groups-last l.rest (omega arith)) in
     let last : c.args.at + c.group_count.result - 1 ≡ l.next = omega arith in
     rw last (sets_puts c.requires t.0 t.1)

@@ -8,4 +8,4 @@ use Rattle.codec.proofs.put_groups.Given as goal
 
 abbrev pub invariant-loop-next : goal.invariant-loop-next
 invariant-loop-next l =
-    (length l.out ≡ length l.initial.out) × (l.next + length (groups l.rest) ≡ l.at + length (groups l.n)) × (sets l.out l.next (groups l.rest) ≡ sets l.initial.out l.at (groups l.n))
+    (l.next + length (groups l.rest) ≡ l.at + length (groups l.n)) × (sets l.out l.next (groups l.rest) ≡ sets l.initial.out l.at (groups l.n))
