@@ -78,6 +78,15 @@ pub fn write_answer(out: &mut [u8], end: usize, answer: Answer) -> usize
     }
 }
 
+// The line of an answer, in the room that was lent.
+#[tactic(auto, using(codec::proofs::Putting::puts_inside, codec::proofs::Putting::puts_front))]
+pub fn answer_line(room: &mut [u8; 45], answer: Answer) -> &[u8]
+    ensures { result.now ≡ line_of (reply_of answer) }
+{
+    let end = write_answer(room, 0, answer);
+    &room[..end]
+}
+
 // The mark that an answer leaves.
 pub fn next_mark(mark: usize, answer: Answer) -> usize
     ensures { result ≡ mark_after mark (reply_of answer) }

@@ -4,8 +4,8 @@ use mathlib.Core.List.{List, [], ◌∷◌, ◌++◌}
 use Prim.Native.Nat.{ℕ, suc, ◌+◌, ◌≤◌}
 use native.Mathlib.Nat.{add-zero}
 use native.Mathlib.Omega.{arith}
-use lib.ListN.{length, set, length-append}
-use lib.Seq.{sets, sets-eq, length-sets, set_comm}
+use lib.ListN.{length, take, drop, set, length-append}
+use lib.Seq.{sets, sets-eq, length-sets, set_comm, length-take-le, take_at}
 use Rattle.codec.specs.Writing.{put, Puts}
 
 pub put_sets : (bytes out : List ℕ) (at : ℕ) → at + length bytes ≤ length out → put out at bytes ≡ sets out at bytes
@@ -45,6 +45,20 @@ puts_puts {out} {at} {xs} {mid} {between} {ys} {end} {after} h p q =
           ∙ sym (sets_append out at xs ys)
           ∙ sym (put_sets (xs ++ ys) out at h);
     }
+
+-- the place behind what was put lies within the bytes, and in front of it stands, from the first place on, what was put
+pub puts_inside : {out : List ℕ} {at : ℕ} {bytes : List ℕ} {end : ℕ} {after : List ℕ} → at ≤ length out → Puts out at bytes end after → end ≤ length after
+unfolding put
+puts_inside {out} {at} {bytes} h p =
+    let e = ap length p.bytewise in
+    let front = length-take-le at out h in
+    omega (arith, p.behind, length-append (take at out ++ bytes) (drop (at + length bytes) out), length-append (take at out) bytes)
+
+pub puts_front : {out bytes : List ℕ} {end : ℕ} {after : List ℕ} → Puts out 0 bytes end after → take end after ≡ bytes
+unfolding put
+puts_front {out} {bytes} {end} p =
+    let e : length bytes ≡ end = omega (arith, p.behind) in
+    rw p.bytewise (take_at bytes (drop (0 + length bytes) out) end e)
 
 -- a loop that has stored every byte
 pub sets_puts : {out : List ℕ} {at : ℕ} {bytes : List ℕ} {end : ℕ} {after : List ℕ} → at + length bytes ≤ length out → end ≡ at + length bytes → after ≡ sets out at bytes → Puts out at bytes end after
