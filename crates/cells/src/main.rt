@@ -17,7 +17,7 @@ const LONGEST: usize = 65536;
 // Lines of a script whose results can be named.
 const LINES: usize = 4096;
 
-// The position of a line that gave none.
+// The position of a line that gave none: a number, since the call is asked with it as with any other.
 const NOWHERE: u64 = 18446744073709551615;
 
 // Where a script stands: the next byte, and the mark.

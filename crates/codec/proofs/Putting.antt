@@ -46,13 +46,16 @@ puts_puts {out} {at} {xs} {mid} {between} {ys} {end} {after} h p q =
           ∙ sym (put_sets (xs ++ ys) out at h);
     }
 
--- the place behind what was put lies within the bytes, and in front of it stands, from the first place on, what was put
+-- the place behind what was put lies within the bytes; from the first place on, what was put stands in front of it
 pub puts_inside : {out : List ℕ} {at : ℕ} {bytes : List ℕ} {end : ℕ} {after : List ℕ} → at ≤ length out → Puts out at bytes end after → end ≤ length after
 unfolding put
 puts_inside {out} {at} {bytes} h p =
     let e = ap length p.bytewise in
     let front = length-take-le at out h in
     omega (arith, p.behind, length-append (take at out ++ bytes) (drop (at + length bytes) out), length-append (take at out) bytes)
+
+pub puts_taken : {out : List ℕ} {at : ℕ} {bytes : List ℕ} {end : ℕ} {after : List ℕ} → at ≤ length out → Puts out at bytes end after → end ≡ length (take end after)
+puts_taken h p = sym (length-take-le _ _ (puts_inside h p))
 
 pub puts_front : {out bytes : List ℕ} {end : ℕ} {after : List ℕ} → Puts out 0 bytes end after → take end after ≡ bytes
 unfolding put
