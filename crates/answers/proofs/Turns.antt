@@ -7,7 +7,7 @@ use native.Mathlib.Omega.{arith}
 use lib.ListN.{length, set, length-append}
 use lib.Seq.{sets}
 use Rattle.codec.specs.Digits.{digits}
-use Rattle.codec.proofs.Choices.{lt_or_le}
+use Rattle.std.proofs.lemmas.Bool.{cases_lt}
 use Rattle.codec.proofs.Digits.{digits-small, digits_more, digits_some, digits-most}
 use Rattle.codec.proofs.Putting.{sets_last}
 use Rattle.answers.specs.Lines.{text, decimal}
@@ -58,7 +58,7 @@ module _ (at place rest : ℕ) (out whole : List ℕ) where
 
   pub left_more : at < place → Left at place rest out whole → Left at (place - 1) (rest / 10) (set out (place - 1) (48 + rest % 10)) whole
   left_more h (stored e l) = absurd (omega arith)
-  left_more h (to_store e l) = ⊎_elim (digit_last e l) (digit_more e l) (lt_or_le rest 10)
+  left_more h (to_store e l) = ⊎_elim (digit_last e l) (digit_more e l) (cases_lt rest 10)
 
   pub left-none : place ≤ at → Left at place rest out whole → out ≡ whole
   left-none h (stored e l) = l

@@ -2,12 +2,13 @@
 use mathlib.Core.Path.{◌≡◌, refl, sym, ap, ◌∙◌}
 use mathlib.Core.List.{List, ◌++◌}
 use Prim.Native.Nat.{ℕ, zero, suc, ◌+◌, ◌-◌, ◌≤◌}
-use native.Mathlib.Nat.{zero-add, sub-zero, zero-sub, suc-sub-suc}
+use native.Mathlib.Nat.{zero-add}
 use native.Mathlib.Numerals.{add-one}
 use native.Mathlib.Omega.{arith}
-use lib.ListN.{length, drop, set, replicate, length-replicate}
+use lib.ListN.{length, set, replicate, length-replicate}
 use lib.Seq.{sets, sets-eq}
 use Rattle.codec.specs.declared.Number.{Number}
+use Rattle.std.proofs.lemmas.List.{drop-replicate}
 use Rattle.std.proofs.Common.{Option, Some, None}
 use Rattle.codec.specs.declared.Operands.{Operands}
 use Rattle.codec.specs.Numbers.{read, number_at}
@@ -37,11 +38,6 @@ unfolding numbers_at
 counts zero bytes at = counted refl
 counts (suc k) bytes at = first_counts k (number_at bytes at) (numbers_at k bytes) (counts k bytes)
 
-drop-zeros : (m k : ℕ) → drop {A = ℕ} m (replicate k 0) ≡ replicate (k - m) 0
-drop-zeros zero k = rw (sub-zero k)
-drop-zeros (suc m) zero = ap (λ (n : ℕ). replicate n 0) (sym (zero-sub (suc m)))
-drop-zeros (suc m) (suc k) = drop-zeros m k ∙ ap (λ (n : ℕ). replicate n 0) (sym (suc-sub-suc k m))
-
 -- at the start the array holds zeros
 pub filled-zeros : (at k : ℕ) (bytes : List ℕ) → k ≤ 257 → filled (replicate 257 0) 0 (numbers_at k bytes at) ≡ operands_of (numbers_at k bytes at)
 filled-zeros at k bytes h = go (numbers_at k bytes at) (counts k bytes at)
@@ -50,7 +46,7 @@ filled-zeros at k bytes h = go (numbers_at k bytes at) (counts k bytes at)
     go (listed ns next) (counted e) =
         ap (λ (vs : List ℕ). Some (record { next = next; values = vs }))
         (sets-eq ns (replicate 257 0) 0 (omega (arith, e, length-replicate {A = ℕ} 257 0))
-        ∙ ap (◌++◌ ns) (drop-zeros (0 + length ns) 257 ∙ ap (λ (n : ℕ). replicate (257 - n) 0) (zero-add (length ns))))
+        ∙ ap (◌++◌ ns) (drop-replicate (0 + length ns) 257 0 ∙ ap (λ (n : ℕ). replicate (257 - n) 0) (zero-add (length ns))))
     go broken uncounted = refl
 
 -- a turn, with k numbers to read

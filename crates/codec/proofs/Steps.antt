@@ -17,7 +17,9 @@ use lib.Seq.{get_or-drop, drop-cons}
 use Rattle.codec.specs.declared.Number.{Number}
 use Rattle.std.proofs.Common.{Option, None}
 use Rattle.codec.specs.Numbers.{groups, value, run, same, read, number_of, number_at}
-use Rattle.codec.proofs.Choices.{lt_or_le, cond_same, and_false, and_true_r}
+use Rattle.std.proofs.lemmas.Bool.{cases_lt}
+use Rattle.std.proofs.Math.Bool.{and-false, and-true}
+use Rattle.codec.proofs.Choices.{cond_same}
 use Rattle.codec.proofs.Groups.{groups-small, groups_more, eq_same}
 
 -- the groups still to come, where v and s are the value and the bits of those before them, and `next` the place
@@ -58,7 +60,7 @@ tenth_below v g h =
     ⊎_elim
     (λ m. rw (lt-ltb 1 g m) (le-ltb (v + g * 2 ^ 63) (2 ^ 64) (omega (arith, m))))
     (λ m. rw (le-ltb 1 g m) (lt-ltb (v + g * 2 ^ 63) (2 ^ 64) (omega (arith, m))))
-    (lt_or_le 1 g)
+    (cases_lt 1 g)
 
 -- a group that is the last passes 2 ^ 64 only as the tenth
 last_below : (v s g : ℕ) → g < 128 → Begun v s → ltb (v + g * 2 ^ s) (2 ^ 64) ≡ not (eqb s 63 && ltb 1 g)
@@ -72,7 +74,7 @@ last_below v s g l h =
     (λ k.
     let e : s ≡ 63 = omega (arith, h.most) in
     rw e (tenth_below v g (subst (λ (x : ℕ). v < 2 ^ x) e h.below)))
-    (lt_or_le s 63)
+    (cases_lt s 63)
 
 swap : (a b : Bool) {c : Bool} (r : Option Number) → c ≡ not a → cond a None (cond b None r) ≡ cond b None (cond c r None)
 swap true true r e = refl
@@ -156,15 +158,15 @@ steps_ends (g ∷ gs) v s next bytes h =
     (λ m.
     let e : s ≡ 63 = omega (arith, h.most) in
     rw (e, lt-ltb 1 g (omega arith), le-ltb g 128 l) (sym (eleventh v next g (value (run gs)) (run gs) l)))
-    (lt_or_le s 63))
-    (lt_or_le g 128)
+    (cases_lt s 63))
+    (cases_lt g 128)
 
 -- at the start there is nothing to add to
 ends_number : (at w : ℕ) (gs : List ℕ) → ends 0 0 at w gs ≡ cond (same gs (groups w)) (cond (ltb w (2 ^ 64)) (read w (at + length gs)) None) None
 unfolding ends
 ends_number at w gs =
     let e : 0 + w * 2 ^ 0 ≡ w = omega arith in
-    rw (and_false (eqb w 0), e)
+    rw (and-false (eqb w 0), e)
 
 -- decoding by steps is decoding by the encoding
 pub by_steps : (bytes : List ℕ) (at : ℕ) → ((k : ℕ) → get_or bytes k 0 < 256) → steps 0 0 at (drop at bytes) ≡ number_at bytes at
@@ -216,5 +218,5 @@ turn_none v s next bytes h = rw (drop_of_length-le bytes h)
 pub below_tenth : (s g : ℕ) → s ≤ 63 → 128 ≤ g → (eqb s 63 && ltb 1 g) ≡ false → s < 63
 below_tenth s g h l e =
     ⊎_elim (λ k. k)
-    (λ k. absurd (eqb-false s 63 (rw (lt-ltb 1 g (omega arith), and_true_r (eqb s 63)) at e) (omega arith)))
-    (lt_or_le s 63)
+    (λ k. absurd (eqb-false s 63 (rw (lt-ltb 1 g (omega arith), and-true (eqb s 63)) at e) (omega arith)))
+    (cases_lt s 63)

@@ -10,7 +10,7 @@ use lib.ListN.{length, set}
 use lib.Seq.{sets}
 use Rattle.codec.specs.Digits.{digits}
 use Rattle.codec.specs.Numbers.{groups}
-use Rattle.codec.proofs.Choices.{lt_or_le}
+use Rattle.std.proofs.lemmas.Bool.{cases_lt}
 use Rattle.codec.proofs.Digits.{digits-small, digits_more}
 use Rattle.codec.proofs.Groups.{groups-small, groups_more, groups_some}
 
@@ -32,13 +32,13 @@ count_end {b} {n} {rest} h c =
 
 -- as many places are left as groups
 pub groups_left : (rest : ℕ) → 1 < length (groups rest) → 128 ≤ rest
-groups_left rest h = ⊎_elim (λ l. let e = ap length (groups-small rest l) in absurd (omega arith)) (λ l. l) (lt_or_le rest 128)
+groups_left rest h = ⊎_elim (λ l. let e = ap length (groups-small rest l) in absurd (omega arith)) (λ l. l) (cases_lt rest 128)
 
 pub groups-last : (rest : ℕ) → length (groups rest) ≤ 1 → rest < 128
 groups-last rest h =
     ⊎_elim (λ l. l)
     (λ l. let e = ap length (groups_more rest l) in let g = groups_some (rest / 128) in absurd (omega arith))
-    (lt_or_le rest 128)
+    (cases_lt rest 128)
 
 -- storing groups
 module _ (out whole : List ℕ) (next rest end : ℕ) (place : next + length (groups rest) ≡ end) (left : sets out next (groups rest) ≡ whole) where
