@@ -12,7 +12,9 @@ ghost use Rattle.arena.specs.Runs.{Holds};
 ghost use Rattle.nodes.specs.Builds.{nodes_of, Builds, term_reply};
 ghost use Rattle.factory.specs.Fit.{Typed, OfKind, Options, Ready};
 ghost use Rattle.factory.specs.SetSteps.{record_get};
-ghost use Rattle.compiler.specs.Compiler.{compiled_not, neg_unless, compiled_neg, compiled_is_empty, gotten, inner as inner_of, if_all_given, record_if_all, compiled_record, has_field, has_some, compiled_has_attr, optioned as optionedBy, compiled_get_attr};
+ghost use Rattle.compiler.specs.Compiler.{fields_at, compiled_not, neg_unless, compiled_neg, compiled_is_empty, gotten, inner as inner_of, if_all_given, record_if_all, compiled_record, has_field, has_some, compiled_has_attr, optioned as optionedBy, compiled_get_attr};
+ghost use Rattle.arena.specs.Lists.{field};
+ghost use Rattle.runs.specs.Fields.{given};
 ghost use Rattle.compiler.specs.Buffers.{fields_reply, HoldsInner, HasField, OptionalField};
 ghost use Rattle.table.specs.Table.{row};
 ghost use Rattle.table.specs.Forms.{Passes};
@@ -20,12 +22,11 @@ ghost use Rattle.table.specs.Forms.{Passes};
 use arena::TermPos;
 use factory_bitvectors::{bvneg, bvnego};
 use factory_core::not;
-use factory_data::runs::field_or_0;
 use factory_data::{option_get, record_get, set_is_empty};
 use factory_helpers::{if_all_some, if_false, is_some};
 use factory_makers::{record_of, some_of};
 use nodes::{Arena, Full};
-use runs::nth;
+use runs::{field, nth};
 
 const FALSE: TermPos = TermPos(4);
 
@@ -131,18 +132,13 @@ pub fn compile_record(arena: &mut Arena<'_>, list: &[u64]) -> Result<TermPos, Fu
 
 // ---------- compile_has_attr and compile_get_attr ----------
 
-// Whether the attribute k is among the fields.
-fn has_field(fields: &[u64], k: u64) -> bool
-    ensures { result ≡ has_field fields.now k }
+// The type of the attribute k in the record t, where it has one.
+fn field_type(arena: &Arena<'_>, k: u64, t: TermPos) -> Option<u64>
+    requires { Ready (λ a. OfKind a 5 t.0) arena.now }
+    ensures { result ≡ given (field (fields_at (nodes_of arena.now) t.0) k) }
 {
-    let mut i: usize = 0;
-    while i + 1 < fields.len() {
-        if fields[i] == k {
-            return true;
-        }
-        i += 2;
-    }
-    false
+    let ty = arena.type_of(t);
+    field(arena.members_of(ty.0), k)
 }
 
 // An optional field is there if it is some.
@@ -167,16 +163,13 @@ pub fn compile_has_attr(arena: &mut Arena<'_>, k: u64, t: TermPos) -> Result<Ter
     requires { Ready (λ a. OfKind a 5 t.0 × small k ≡ true) arena.old }
     ensures { Builds (λ a. compiled_has_attr a k t.0) arena.old (term_reply result) arena.new }
 {
-    let ty = arena.type_of(t);
-    let fields = arena.members_of(ty.0);
-    if has_field(fields, k) {
-        let of = field_or_0(fields, k);
-        if arena.kind_of(of) == 3 {
-            return has_optional(arena, k, t);
-        }
-        return some_of(arena, TRUE);
+    let Some(of) = field_type(arena, k, t) else {
+        return some_of(arena, FALSE);
+    };
+    if arena.kind_of(of) == 3 {
+        return has_optional(arena, k, t);
     }
-    some_of(arena, FALSE)
+    some_of(arena, TRUE)
 }
 
 // Put in some unless it is an option.
@@ -195,8 +188,7 @@ pub fn compile_get_attr(arena: &mut Arena<'_>, k: u64, t: TermPos) -> Result<Ter
     requires { Ready (λ a. HasField a k t.0) arena.old }
     ensures { Builds (λ a. compiled_get_attr a k t.0) arena.old (term_reply result) arena.new }
 {
-    let ty = arena.type_of(t);
-    let of = field_or_0(arena.members_of(ty.0), k);
+    let of = field_type(arena, k, t).unwrap();
     let option = arena.kind_of(of) == 3;
     let p = record_get(arena, k, t)?;
     optioned(arena, option, p)

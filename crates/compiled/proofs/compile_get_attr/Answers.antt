@@ -1,30 +1,28 @@
-use Rattle.nodes.specs.Builds.{nodes_of}
-use Prim.Native.Nat.{ℕ}
+use mathlib.Core.Path.{sym}
+use Rattle.compiled.proofs.Fields.{found-there, there-found}
 use lib.Dec.{eqb}
 use mathlib.Core.Bool.{true}
-use mathlib.Core.List.{List}
-use mathlib.Core.Path.{◌≡◌, ap, ◌∙◌}
+use mathlib.Core.Path.{◌≡◌, ◌∙◌}
 use Rattle.compiler.specs.Compiler.{fields_at, optioned, compiled_get_attr}
 use Rattle.compiler.proofs.Optional.{optioned_ext}
 use Rattle.factory.proofs.Calls.{ready_wf, ready_next}
-use Rattle.factory.proofs.Operands.{type_pos}
 use Rattle.factory.proofs.Records.{record_get_law}
 use Rattle.arena.specs.Lists.{field_d}
-use Rattle.arena.specs.Nodes.{type_at, mem_at}
+use Rattle.arena.specs.Nodes.{type_at}
 use Rattle.arena.specs.WellFormed.{is_term}
 use Rattle.arena.proofs.Chain.{type-kind}
 use Rattle.nodes.proofs.Steps.{builds_then, term_stop, builds_as}
 use Rattle.arena.proofs.Whole.{field-type}
 use Rattle.compiled.proofs.compile_get_attr.Goals as goal
 
-pub members_of-requires : goal.members_of-requires
-members_of-requires c = record { below = c.requires.arena.below; bound = rw c.type_of-ty.ensures (type_pos (ready_wf c.requires) c.args.t.0 c.requires.fit.rec.isterm) }
+pub unwrap-of-requires : goal.unwrap-of-requires
+unwrap-of-requires c = rw c.field_type.ensures (there-found _ _ c.requires.fit.there)
 
 pub kind_of-option-requires : goal.kind_of-option-requires
 kind_of-option-requires c =
     let s = c.requires in
-    let w = ready_wf s in
-    record { below = s.arena.below; bound = rw ((c.field_or_0-of.ensures ∙ ap (λ (r : List ℕ). field_d r c.args.k) (c.members_of.ensures ∙ ap (mem_at (nodes_of c.args.arena.now)) c.type_of-ty.ensures))) (type-kind _ _ (field-type w (type_at _ c.args.t.0) c.args.k _ s.fit.rec.sort s.fit.there)).0 }
+    let h = found-there _ c.args.k _ (sym c.field_type.ensures ∙ c.unwrap-of.ensures) in
+    record { below = s.arena.below; bound = rw (← h.1) (type-kind _ _ (field-type (ready_wf s) (type_at _ c.args.t.0) c.args.k _ s.fit.rec.sort s.fit.there)).0 }
 
 pub optioned-requires : goal.optioned-requires
 optioned-requires c =
@@ -36,7 +34,9 @@ optioned-requires c =
 
 pub returns : goal.returns
 unfolding compiled_get_attr
-returns c = builds_as (builds_then c.args.arena.now _ c.in_ok-p.ensures (λ b p. optioned (eqb c.kind_of-option.result 3) b p) c.optioned.ensures) (rw (c.kind_of-option.ensures, (c.field_or_0-of.ensures ∙ ap (λ (r : List ℕ). field_d r c.args.k) (c.members_of.ensures ∙ ap (mem_at (nodes_of c.args.arena.now)) c.type_of-ty.ensures))))
+returns c =
+    let h = found-there _ c.args.k _ (sym c.field_type.ensures ∙ c.unwrap-of.ensures) in
+    builds_as (builds_then c.args.arena.now _ c.in_ok-p.ensures (λ b p. optioned (eqb c.kind_of-option.result 3) b p) c.optioned.ensures) (rw (c.kind_of-option.ensures, h.1))
 
 pub returns-in_err-p : goal.returns-in_err-p
 unfolding compiled_get_attr
