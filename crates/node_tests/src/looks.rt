@@ -16,13 +16,13 @@ use runs::nth;
 
 // The nodes below a mark, and where they start.
 #[derive(Clone, Copy)]
-pub struct Seen<'a> {
+pub struct Seen<'a, 's> {
     pub nodes: View<'a>,
-    pub starts: &'a [u8],
+    pub starts: &'s [u8],
     pub ghost known: { Starts (nodes_of nodes) starts.now },
 }
 
-impl Seen<'_> {
+impl Seen<'_, '_> {
     // Cell j of the header of the node at p; 0 where none starts.
     pub fn look(&self, p: u64, j: usize) -> u64
         requires { j ≤ 3 }

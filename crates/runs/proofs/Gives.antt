@@ -34,13 +34,15 @@ gives_step p q v n s a b c i g =
     record {
       some = omega (arith, below p.len n (omega (arith, i.3, g.some)));
       whole = λ w. omega (arith, below p.len n (omega (arith, i.3, g.some)), below n p.len (omega (arith, i.2, g.whole (i.0 ∙ w))));
-      item = λ k h. ap (option_map v) (i.4 k) ∙ g.item (k * s) (omega (arith, i.3, next k h))
+      item = λ k h. ap (option_map v) (i.4 k) ∙ g.item (k * s) (omega (arith, i.3, next k h));
     }
   where
     one_more : (b : ℕ) → (b + 1) * s ≡ b * s + s
     one_more b = add-mul b 1 s ∙ ap (λ x. b * s + x) (one-mul s)
+
     below : (a b : ℕ) → a * s < b * s + s → a < b + 1
     below a b h = let e = one_more b in lt_of_mul-lt-mul_right s (omega arith)
+
     next : (k : ℕ) → k < p.len → k * s + s ≤ p.len * s
     next k h = let e = one_more k in let l : (k + 1) * s ≤ p.len * s = mul-le-mul_right s (omega arith) in omega arith
 
@@ -83,7 +85,7 @@ gives_skip p q v xs n i g =
     (record {
       some = omega (arith, i.1, g.numbers.some);
       whole = λ w. omega (arith, i.1, g.numbers.whole (i.0 ∙ w));
-      item = λ k h. ap (option_map v) (i.3 k) ∙ g.numbers.item (n + k) (omega (arith, i.1))
+      item = λ k h. ap (option_map v) (i.3 k) ∙ g.numbers.item (n + k) (omega (arith, i.1));
     })
 
 -- what the fields hold: every second from the second on
