@@ -9,17 +9,17 @@ ghost use Rattle.instruction.specs.Instruction.{instr_of};
 ghost use Rattle.table.specs.Forms.{instr, listed, Passes, Held};
 ghost use Rattle.table.specs.Answers.{Answered};
 
-use arena::cells::clear_back;
+use arena::cells::{View, clear_back};
 use build::build;
 use instruction::Instruction;
 use nodes::{Arena, Full};
 use refusals::refusal;
-use table::Answer;
+use table::{Accepted, Answer, Refusal};
 use wellformed::is_formed;
 
 mod build;
 
-// An instruction that no test refuses: what it builds, or 9.
+// An instruction that no test refuses: what it builds, where there is room.
 fn built(cells: &mut [u64], mark: usize, op: u64, par: u64, xs: &[u64]) -> Answer
     requires arena { IsArena cells.old mark }
     requires passes { Passes (used cells.old mark) op par xs.now }
@@ -27,10 +27,13 @@ fn built(cells: &mut [u64], mark: usize, op: u64, par: u64, xs: &[u64]) -> Answe
 {
     let mut arena = Arena { cells, mark };
     match build(&mut arena, op, par, xs) {
-        Ok(position) => Answer::Accepted(position, arena.mark),
+        Ok(position) => Ok(Accepted {
+            position,
+            mark: arena.mark,
+        }),
         Err(Full) => {
             clear_back(arena.cells, mark);
-            Answer::Refused(9)
+            Err(Refusal::NoRoom)
         }
     }
 }
@@ -48,10 +51,7 @@ pub fn call_listed(
     requires held { Held count xs.now }
     ensures { Answered cells.old mark (instr op par count xs.now) result cells.new }
 {
-    let number = refusal(cells, mark, op, par, count, xs);
-    if number != 0 {
-        return Answer::Refused(number);
-    }
+    refusal(&View { cells, mark }, op, par, count, xs)?;
     built(cells, mark, op, par, xs)
 }
 
@@ -59,7 +59,7 @@ pub fn call_listed(
 fn held(count: u64) -> usize
     ensures { result ≡ min count 257 }
 {
-    if count > 257 { 257 } else { count as usize }
+    count.min(257) as usize
 }
 
 // On an arena known to be well formed.
@@ -86,5 +86,5 @@ pub fn call(cells: &mut [u64], mark: u64, instruction: Instruction) -> Answer
     if is_formed(cells, mark) {
         return call_known(cells, mark as usize, instruction);
     }
-    Answer::Refused(1)
+    Err(Refusal::NotAnArena)
 }

@@ -21,6 +21,11 @@ use Rattle.arena.proofs.Steps.{reply-fits, then_cells, then_mark, then_at}
 use Rattle.instruction.specs.Instruction.{Instr}
 use Rattle.table.specs.Forms.{instr, Passes, Held}
 use Rattle.table.proofs.Kept.{few}
+use Rattle.std.specs.Prelude.{Err}
+use Rattle.table.specs.Refusals.{number_of}
+use Rattle.table.specs.Answers.{reply_of}
+use Rattle.table.specs.declared.Refusal.{Refusal}
+use Rattle.table.specs.declared.Refusal.TheVariants.{NotAnArena, NotAnInstruction, TooMany, NotAPosition, WrongType, WrongWidth, TooLarge, AbsentAttribute, NoRoom}
 use Rattle.table.specs.Call.{ok, refused, Done as Called, done, refusal, fitted, build, call, Lent, lent, call_on}
 
 -- a step that was built fits below the end, one that had no room does not
@@ -41,6 +46,17 @@ stop_full {o} {c} e d = go (leb (mark o.arena) (length c)) refl
 abbrev left : ℕ → Called → Lent
 left n d = lent d.reply (padded n d.after)
 
+some_number : (e : Refusal) → number_of e ≡ 0 → ⊥
+some_number NotAnArena q = absurd (cc)
+some_number NotAnInstruction q = absurd (cc)
+some_number TooMany q = absurd (cc)
+some_number NotAPosition q = absurd (cc)
+some_number WrongType q = absurd (cc)
+some_number WrongWidth q = absurd (cc)
+some_number TooLarge q = absurd (cc)
+some_number AbsentAttribute q = absurd (cc)
+some_number NoRoom q = absurd (cc)
+
 module _ (c : List ℕ) (m : ℕ) (i : Instr) where
   pub not_formed : formed c m ≡ false → call_on c m i ≡ lent (refused 1) c
   unfolding call_on
@@ -54,12 +70,17 @@ module _ (c : List ℕ) (m : ℕ) (i : Instr) where
     whole : lent (refused 9) (padded (length c) (used c m)) ≡ lent (refused 9) c
     whole = ap (lent (refused 9)) (sym (arena-cells A))
 
-    pub by_refusal : (n : ℕ) → n ≡ refusal (used c m) i → (n ≡ 0 → ⊥) → call_on c m i ≡ lent (refused n) c
+    by_refusal : (n : ℕ) → n ≡ refusal (used c m) i → (n ≡ 0 → ⊥) → call_on c m i ≡ lent (refused n) c
     unfolding call
     by_refusal zero e h = absurd (h refl)
     by_refusal (suc k) e h =
         on_arena ∙ ap (λ (r : ℕ). left (length c) (elim r [ zero ↦ fitted (length c) (used c m) (build (used c m) i) | suc k ↦ done (refused (suc k)) (used c m) ])) (sym e)
         ∙ ap (lent (refused (suc k))) (sym (arena-cells A))
+
+    pub by_refused : (e : Refusal) → number_of e ≡ refusal (used c m) i → (reply_of (Err e) ≡ (call_on c m i).reply) × (c ≡ (call_on c m i).cells)
+    by_refused e q =
+        let z = by_refusal (number_of e) q (some_number e) in
+        (sym (ap (λ (l : Lent). l.reply) z), sym (ap (λ (l : Lent). l.cells) z))
 
     by_fit : refusal (used c m) i ≡ 0 → call_on c m i ≡ left (length c) (fitted (length c) (used c m) (build (used c m) i))
     unfolding call
