@@ -9,9 +9,8 @@ use Rattle.arena.specs.WellFormed.{IsArena}
 use Rattle.instruction.specs.Instruction.{instr_of}
 use Rattle.instruction.specs.declared.Instruction.{Instruction}
 use Rattle.table.specs.Call.{lent, call_on}
-use Rattle.table.specs.Answers.{mark_after, reply_of}
+use Rattle.table.specs.Answers.{Answer, mark_after, reply_of}
 use Rattle.table.specs.Promises.{After}
-use Rattle.table.specs.declared.Answer.{Answer}
 use Rattle.table.proofs.Kept.{kept}
 
 -- the operands of a struct are as many as its count says, where its array has so many

@@ -90,10 +90,7 @@ fn say_cells(rt: &impl Print, cells: &[u64], mark: usize) -> io::Result<()> {
 // ---- scripts
 
 fn position(answer: Answer) -> u64 {
-    match answer {
-        Answer::Accepted(position, _) => position,
-        Answer::Refused(_) => NOWHERE,
-    }
+    answer.map_or(NOWHERE, |accepted| accepted.position)
 }
 
 fn put(results: &mut [u64], line: usize, position: u64) {
@@ -116,7 +113,7 @@ fn step(
     ensures err { OnErr result ((mark : ℕ) × IsArena cells.new mark) }
 {
     let Some(read) = codec::read_instruction(bytes, place.at) else {
-        say_answer(rt, Answer::Refused(10))?;
+        rt.write_all(b"refused 10\n")?;
         return Ok(Place {
             at: bytes.len(),
             mark: place.mark,

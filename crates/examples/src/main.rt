@@ -67,7 +67,7 @@ fn number(bytes: &[u8], at: usize) -> Number {
 // One instruction. Where none can be read, no byte is left.
 fn step(rt: &impl Print, bytes: &[u8], cells: &mut [u64], place: Place) -> io::Result<Place> {
     let Some(read) = codec::read_instruction(bytes, place.at) else {
-        say_answer(rt, Answer::Refused(10))?;
+        rt.write_all(b"refused 10\n")?;
         return Ok(Place {
             at: bytes.len(),
             mark: place.mark,

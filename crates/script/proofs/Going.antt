@@ -17,8 +17,7 @@ use Rattle.codec.specs.Writing.{put, Puts}
 use Rattle.answers.specs.Lines.{refused_line}
 use Rattle.codec.proofs.Putting.{length-put, puts_puts, puts_inside}
 use Rattle.table.specs.Call.{Reply}
-use Rattle.table.specs.Answers.{reply_of, Answered, mark_after}
-use Rattle.table.specs.declared.Answer.{Answer}
+use Rattle.table.specs.Answers.{Answer, reply_of, Answered, mark_after}
 use Rattle.answers.specs.Replies.{line_of}
 use Rattle.script.specs.Script.{longest, lent, State, state, start, Step, wrote, step_on, step, onto, ran, answers, cells_after}
 use Rattle.script.specs.Running.{room, Stepped, Ready, Walked, Ran}

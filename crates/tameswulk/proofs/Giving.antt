@@ -10,9 +10,11 @@ use borrow.Author.Tests.{leb-true, leb-false}
 use Rattle.arena.specs.WellFormed.{formed}
 use Rattle.instruction.specs.Instruction.{Instr}
 use Rattle.table.specs.Call.{Reply, refused, Lent}
-use Rattle.table.specs.Answers.{reply_of, told, Answered}
-use Rattle.table.specs.declared.Answer.{Answer}
-use Rattle.table.specs.declared.Answer.TheVariants.{Accepted, Refused}
+use Rattle.std.specs.Prelude.{Ok, Err}
+use Rattle.table.specs.Answers.{Answer, reply_of, told, Answered}
+use Rattle.table.specs.Refusals.{number_of}
+use Rattle.table.specs.declared.Accepted.{Accepted}
+use Rattle.table.specs.declared.Refusal.{Refusal}
 use Rattle.table.proofs.Entry.{not_formed}
 use Rattle.script.specs.Script.{lent}
 use Rattle.script.specs.Running.{room, Ran}
@@ -37,17 +39,17 @@ above-one (x ∷ y ∷ xs) p h k = let z : 1 < suc (suc (length xs)) = omega ari
 
 -- ---- an answer
 
-pub tells_accepted : {xs xs' : List ℕ} {m p n : ℕ} {a : Answer} → a ≡ Accepted p n → xs' ≡ noted xs p n → Tells xs m (reply_of a) 0 xs'
+pub tells_accepted : {xs xs' : List ℕ} {m : ℕ} {x : Accepted} {a : Answer} → a ≡ Ok x → xs' ≡ noted xs x.position x.mark → Tells xs m (reply_of a) 0 xs'
 tells_accepted {xs} {xs'} {m} e h =
     record {
       number = sym (ap (λ (a : Answer). (told m (reply_of a)).number) e);
       beside = h ∙ sym (ap (λ (a : Answer). noted xs (told m (reply_of a)).position (told m (reply_of a)).mark) e);
     }
 
-pub tells_refused : {xs xs' : List ℕ} {m k : ℕ} {a : Answer} → a ≡ Refused k → xs' ≡ noted xs 0 m → Tells xs m (reply_of a) k xs'
-tells_refused {xs} {xs'} {m} e h =
+pub tells_refused : {xs xs' : List ℕ} {m k : ℕ} {x : Refusal} {a : Answer} → a ≡ Err x → k ≡ number_of x → xs' ≡ noted xs 0 m → Tells xs m (reply_of a) k xs'
+tells_refused {xs} {xs'} {m} e n h =
     record {
-      number = sym (ap (λ (a : Answer). (told m (reply_of a)).number) e);
+      number = n ∙ sym (ap (λ (a : Answer). (told m (reply_of a)).number) e);
       beside = h ∙ sym (ap (λ (a : Answer). noted xs (told m (reply_of a)).position (told m (reply_of a)).mark) e);
     }
 

@@ -9,7 +9,7 @@ ghost use Rattle.table.specs.Forms.{listed};
 ghost use Rattle.table.specs.Answers.{reply_of};
 ghost use Rattle.tameswulk.specs.Library.{noted, Tells, Gives, Scripted};
 
-use table::Answer;
+use table::{Answer, Refusal};
 use wellformed::is_formed;
 
 // What a script answers that is lent other cells than 8,192, or too few bytes for its lines.
@@ -34,13 +34,13 @@ fn tell(told: &mut [u64], mark: u64, answer: Answer) -> u64
     ensures { Tells told.old mark (reply_of answer) result told.new }
 {
     match answer {
-        Answer::Accepted(position, next) => {
-            note(told, position, next as u64);
+        Ok(accepted) => {
+            note(told, accepted.position, accepted.mark as u64);
             0
         }
-        Answer::Refused(number) => {
+        Err(refusal) => {
             note(told, 0, mark);
-            number
+            refusal.number()
         }
     }
 }
@@ -92,7 +92,7 @@ pub extern "C" fn tameswulk_call(
     if is_formed(cells, mark) {
         return tameswulk_call_known(cells, mark, op, par, operands, told);
     }
-    tell(told, mark, Answer::Refused(1))
+    tell(told, mark, Err(Refusal::NotAnArena))
 }
 
 // A whole script in a fresh arena: how many bytes its lines have, at the front of `out`.
