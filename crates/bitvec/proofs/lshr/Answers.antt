@@ -4,8 +4,8 @@ use Rattle.bitvec.proofs.lshr.Goals as goal
 
 pub returns-then-rhs-width : goal.returns-then-rhs-width
 returns-then-rhs-width c =
-    sym (lshr_in c.args.width.0 c.args.lhs c.args.rhs c.requires.below)
+    sym (lshr_in c.args.width.bits c.args.lhs c.args.rhs c.requires)
 
 pub returns-else-rhs-width : goal.returns-else-rhs-width
 returns-else-rhs-width c =
-    sym (lshr_out c.args.width.0 c.args.lhs c.args.rhs c.requires.below c.if-rhs-width.false)
+    sym (lshr_out c.args.width.bits c.args.lhs c.args.rhs c.requires c.if-rhs-width.false)

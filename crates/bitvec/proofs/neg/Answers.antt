@@ -3,4 +3,4 @@ use Rattle.bitvec.proofs.neg.Goals as goal
 
 pub returns : goal.returns
 returns c =
-    cc (neg_not c.args.width.0 c.args.v c.requires.below)
+    cc (neg_not c.args.width.bits c.args.v c.requires)

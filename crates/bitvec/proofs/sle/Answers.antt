@@ -6,5 +6,5 @@ pub returns : goal.returns
 unfolding bvsle
 returns c =
     let a = c.args in
-    let w = a.width.0 in
+    let w = a.width.bits in
     c.by_sign.ensures ∙ ap (by_top (top w a.lhs) (top w a.rhs)) c.ule.ensures

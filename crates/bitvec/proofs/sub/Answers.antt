@@ -7,4 +7,4 @@ pub returns : goal.returns
 unfolding bvsub
 returns c =
     let a = c.args in
-    c.add.ensures ∙ ap (bvadd a.width.0 a.lhs) c.neg.ensures
+    c.add.ensures ∙ ap (bvadd a.width.bits a.lhs) c.neg.ensures

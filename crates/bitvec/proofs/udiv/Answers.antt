@@ -4,8 +4,8 @@ use Rattle.bitvec.proofs.udiv.Goals as goal
 
 pub returns-then-rhs-eq0 : goal.returns-then-rhs-eq0
 returns-then-rhs-eq0 c =
-    c.all_ones.ensures ∙ sym (udiv_zero c.args.width.0 c.args.lhs c.args.rhs c.if-rhs-eq0.true)
+    c.all_ones.ensures ∙ sym (udiv_zero c.args.width.bits c.args.lhs c.args.rhs c.if-rhs-eq0.true)
 
 pub returns-else-rhs-eq0 : goal.returns-else-rhs-eq0
 returns-else-rhs-eq0 c =
-    sym (udiv_some c.args.width.0 c.args.lhs c.args.rhs c.requires.below c.if-rhs-eq0.false)
+    sym (udiv_some c.args.width.bits c.args.lhs c.args.rhs c.requires c.if-rhs-eq0.false)

@@ -4,4 +4,4 @@ use Rattle.bitvec.proofs.zero_extend.Goals as goal
 
 pub returns : goal.returns
 returns c =
-    c.of_nat.ensures ∙ extended c.args.width.0 c.args.n c.args.v c.requires.0.below
+    c.of_nat.ensures ∙ extended c.args.width.bits c.args.n c.args.v c.requires.below
