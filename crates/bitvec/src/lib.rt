@@ -54,12 +54,14 @@ pub fn msb(width: Width, v: u64) -> bool
 }
 
 // Every bit flipped.
+#[tactic(auto, unfolding(smtlib::specs::Theory::bvnot))]
 pub fn not(width: Width, v: u64) -> u64
     ensures { result ≡ bvnot width.bits v }
 {
     v ^ all_ones(width)
 }
 
+#[tactic(auto, using(smtlib::proofs::Negation::neg_not))]
 pub fn neg(width: Width, v: u64) -> u64
     requires { v < 2 ^ width.bits }
     ensures { result ≡ bvneg width.bits v }
@@ -68,6 +70,7 @@ pub fn neg(width: Width, v: u64) -> u64
 }
 
 // The smallest signed number, as a bitvector.
+#[tactic(auto, using(smtlib::proofs::Word::half_fits))]
 pub fn int_min(width: Width) -> u64
     ensures { result ≡ 2 ^ (width.bits - 1) }
 {
@@ -88,6 +91,7 @@ fn by_sign(width: Width, lhs: u64, rhs: u64, unsigned: bool) -> bool
     }
 }
 
+#[tactic(auto, unfolding(smtlib::specs::Logic::bvslt))]
 pub fn slt(width: Width, lhs: u64, rhs: u64) -> bool
     requires left { lhs < 2 ^ width.bits }
     requires right { rhs < 2 ^ width.bits }
@@ -96,6 +100,7 @@ pub fn slt(width: Width, lhs: u64, rhs: u64) -> bool
     by_sign(width, lhs, rhs, ult(lhs, rhs))
 }
 
+#[tactic(auto, unfolding(smtlib::specs::Logic::bvsle))]
 pub fn sle(width: Width, lhs: u64, rhs: u64) -> bool
     requires left { lhs < 2 ^ width.bits }
     requires right { rhs < 2 ^ width.bits }
@@ -104,12 +109,14 @@ pub fn sle(width: Width, lhs: u64, rhs: u64) -> bool
     by_sign(width, lhs, rhs, ule(lhs, rhs))
 }
 
+#[tactic(auto, using(smtlib::proofs::Orders::ule_le))]
 pub fn ule(lhs: u64, rhs: u64) -> bool
     ensures { result ≡ bvule lhs rhs }
 {
     lhs <= rhs
 }
 
+#[tactic(auto, unfolding(smtlib::specs::Theory::bvult))]
 pub fn ult(lhs: u64, rhs: u64) -> bool
     ensures { result ≡ bvult lhs rhs }
 {
@@ -122,6 +129,7 @@ pub fn add(width: Width, lhs: u64, rhs: u64) -> u64
     of_nat(width, lhs.wrapping_add(rhs))
 }
 
+#[tactic(auto, unfolding(smtlib::specs::Logic::bvsub))]
 pub fn sub(width: Width, lhs: u64, rhs: u64) -> u64
     requires left { lhs < 2 ^ width.bits }
     requires right { rhs < 2 ^ width.bits }
@@ -137,6 +145,7 @@ pub fn mul(width: Width, lhs: u64, rhs: u64) -> u64
     of_nat(width, p.low)
 }
 
+#[tactic(auto, using(smtlib::proofs::Division::udiv_zero, smtlib::proofs::Division::udiv_some))]
 pub fn udiv(width: Width, lhs: u64, rhs: u64) -> u64
     requires { lhs < 2 ^ width.bits }
     ensures { result ≡ bvudiv width.bits lhs rhs }
@@ -144,6 +153,7 @@ pub fn udiv(width: Width, lhs: u64, rhs: u64) -> u64
     if rhs == 0 { all_ones(width) } else { lhs / rhs }
 }
 
+#[tactic(auto, using(smtlib::proofs::Division::urem_zero, smtlib::proofs::Division::urem_some))]
 pub fn urem(width: Width, lhs: u64, rhs: u64) -> u64
     requires { lhs < 2 ^ width.bits }
     ensures { result ≡ bvurem width.bits lhs rhs }
@@ -152,6 +162,7 @@ pub fn urem(width: Width, lhs: u64, rhs: u64) -> u64
 }
 
 // The absolute value; that of the smallest signed number is its own bits, read unsigned.
+#[tactic(auto, using(smtlib::proofs::Absolute::abs_high, smtlib::proofs::Absolute::abs_low))]
 fn abs(width: Width, v: u64) -> u64
     requires { v < 2 ^ width.bits }
     ensures { result ≡ bvabs width.bits v }
@@ -210,6 +221,7 @@ pub fn shl(width: Width, lhs: u64, rhs: u64) -> u64
     of_nat(width, lhs << rhs)
 }
 
+#[tactic(auto, using(smtlib::proofs::Division::lshr_in, smtlib::proofs::Division::lshr_out))]
 pub fn lshr(width: Width, lhs: u64, rhs: u64) -> u64
     requires { lhs < 2 ^ width.bits }
     ensures { result ≡ bvlshr width.bits lhs rhs }
@@ -218,6 +230,7 @@ pub fn lshr(width: Width, lhs: u64, rhs: u64) -> u64
 }
 
 // Adds n to the width.
+#[tactic(auto, using(smtlib::proofs::Division::extended))]
 pub fn zero_extend(width: Width, n: u64, v: u64) -> u64
     requires below { v < 2 ^ width.bits }
     requires wider { width.bits + n ≤ 64 }
