@@ -13,6 +13,10 @@ is_bv a t = eqb (kind_at a t) 17
 abbrev pub both_bv : Nodes → ℕ → ℕ → Bool
 both_bv a t u = is_bv a t && is_bv a u
 
+-- both values, where both are literals
+unfoldable pub literals_at : Nodes → ℕ → ℕ → Option (ℕ × ℕ)
+literals_at a t u = cond (both_bv a t u) (Some (par_at a t, par_at a u)) None
+
 unfoldable pub bvneg_t : Nodes → ℕ → Out
 bvneg_t a t =
     cond (is_bv a t) (bitvec_lit a (type_at a t) (bvneg (width_at a t) (par_at a t)))
