@@ -1,9 +1,10 @@
 -- What operands that fit are to the bitvector operations and to the steps on options. Assumes nothing.
-use mathlib.Core.Path.{◌≡◌, refl, sym, ◌∙◌, subst}
+use mathlib.Core.Path.{◌≡◌, refl, sym, ap, ◌∙◌, subst}
 use Prim.Native.Nat.{ℕ, ◌+◌, ◌^◌, ◌≤◌, ◌<◌}
 use mathlib.Core.List.{[]}
 use native.Mathlib.Omega.{arith}
-use mathlib.Core.Bool.{Bool, true}
+use mathlib.Core.Bool.{Bool, true, false, cond}
+use Rattle.std.specs.Prelude.{Option, Some, None}
 use mathlib.Core.Logic.{inl}
 use lib.Dec.{eqb}
 use borrow.Author.Tests.{eqb-true, leb-true}
@@ -22,7 +23,7 @@ use Rattle.arena.proofs.Types.{width_range}
 use Rattle.arena.proofs.Known.{bv_node, some_node}
 use Rattle.arena.proofs.Whole.{elem_type}
 use Rattle.factory.specs.Fit.{Typed, Alike, OfKind}
-use Rattle.factory.specs.Bitvectors.{is_bv, both_bv, extended_to}
+use Rattle.factory.specs.Bitvectors.{is_bv, both_bv, extended_to, literals_at}
 use Rattle.factory.specs.Makers.{bool_at}
 use Rattle.factory.proofs.Law.{tm_typed, same_tm, opt_typed, set_typed, bv_typed, bv_kind, bv_width, typed_ext}
 use Rattle.factory.proofs.Equal.{bool-type_of, as_bool_lem, some_type, some_inner}
@@ -89,3 +90,20 @@ set_alike w {s} k m = record { isterm = m.1.isterm; typed = m.1.typed ∙ (set_t
 -- two terms of one type
 pub alike : {a : Nodes} {y : Ty} {x z : ℕ} → Typed a y x → Typed a y z → Alike a x z
 alike m n = (record { isterm = m.isterm; typed = refl }, record { isterm = n.isterm; typed = n.typed ∙ sym m.typed })
+
+-- what the search for two literals says
+pub literals_some : (a : Nodes) (t u l r : ℕ) → literals_at a t u ≡ Some (l, r) → (both_bv a t u ≡ true) × (par_at a t ≡ l) × (par_at a u ≡ r)
+unfolding literals_at
+literals_some a t u l r = go (both_bv a t u) refl
+  where
+    go : (b : Bool) → both_bv a t u ≡ b → cond {A = Option (ℕ × ℕ)} b (Some (par_at a t, par_at a u)) None ≡ Some (l, r) → (both_bv a t u ≡ true) × (par_at a t ≡ l) × (par_at a u ≡ r)
+    go true e h = let p : ◌≡◌ {A = ℕ × ℕ} (par_at a t, par_at a u) (l, r) = cc in (e, ap (λ (q : ℕ × ℕ). q.0) p, ap (λ (q : ℕ × ℕ). q.1) p)
+    go false e h = absurd cc
+
+pub literals_none : (a : Nodes) (t u : ℕ) → literals_at a t u ≡ None → both_bv a t u ≡ false
+unfolding literals_at
+literals_none a t u = go (both_bv a t u) refl
+  where
+    go : (b : Bool) → both_bv a t u ≡ b → cond {A = Option (ℕ × ℕ)} b (Some (par_at a t, par_at a u)) None ≡ None → both_bv a t u ≡ false
+    go true e h = absurd cc
+    go false e h = e

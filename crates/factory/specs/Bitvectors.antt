@@ -1,5 +1,5 @@
 -- 'SMTLib theory of finite bitvectors': literals are folded and nothing else, but for a double bvneg.
-use Rattle.std.specs.Prelude.{ℕ, ◌+◌, Bool, cond, ◌&&◌, [], ◌∷◌, eqb}
+use Rattle.std.specs.Prelude.{ℕ, ◌+◌, Bool, cond, ◌&&◌, [], ◌∷◌, eqb, Option, Some, None}
 use Rattle.smtlib.specs.Theory.{bvneg}
 use Rattle.smtlib.specs.Logic.{zero_extend}
 use Rattle.smtlib.specs.Overflow.{bvnego}
