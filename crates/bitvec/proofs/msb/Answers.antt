@@ -4,4 +4,4 @@ use Rattle.bitvec.proofs.msb.Goals as goal
 
 pub returns : goal.returns
 returns c =
-    ap (λ (x : ℕ). eqb x 1) (sym (top-div c.args.width.0 c.args.v c.requires.width.least c.requires.below))
+    ap (λ (x : ℕ). eqb x 1) (sym (top-div c.args.width.bits c.args.v c.args.width.is_width.least c.requires))

@@ -7,4 +7,4 @@ pub returns : goal.returns
 unfolding nat2bv all_ones
 returns c =
     let a = c.args in
-    ap (bit_and a.v) c.all_ones.ensures ∙ and_mask a.v a.width.0
+    ap (bit_and a.v) c.all_ones.ensures ∙ and_mask a.v a.width.bits

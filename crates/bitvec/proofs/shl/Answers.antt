@@ -6,9 +6,9 @@ use Rattle.bitvec.proofs.shl.Goals as goal
 pub returns-then-width-rhs : goal.returns-then-width-rhs
 unfolding bvshl nat2bv
 returns-then-width-rhs c =
-    sym (shl_out c.args.lhs c.args.rhs c.args.width.0 c.if-width-rhs.true)
+    sym (shl_out c.args.lhs c.args.rhs c.args.width.bits c.if-width-rhs.true)
 
 pub returns : goal.returns
 unfolding bvshl nat2bv
 returns c =
-    c.of_nat.ensures ∙ mod-mod-le (c.args.lhs * 2 ^ c.args.rhs) c.args.width.0 64 c.requires.most
+    c.of_nat.ensures ∙ mod-mod-le (c.args.lhs * 2 ^ c.args.rhs) c.args.width.bits 64 c.args.width.is_width.most
