@@ -32,6 +32,7 @@ impl TryFrom<u64> for Width {
 }
 
 // The number of the width's low bits of v.
+#[tactic(auto, using(crate::proofs::Laws::masks), unfolding(smtlib::specs::Theory::all_ones, smtlib::specs::Theory::nat2bv))]
 pub fn of_nat(width: Width, v: u64) -> u64
     ensures { result ≡ nat2bv width.bits v }
 {
@@ -46,6 +47,7 @@ pub fn all_ones(width: Width) -> u64
 }
 
 // The most significant bit, the sign.
+#[tactic(auto, using(crate::proofs::Laws::tops))]
 pub fn msb(width: Width, v: u64) -> bool
     requires { v < 2 ^ width.bits }
     ensures { result ≡ (top width.bits v == 1) }
@@ -78,6 +80,7 @@ pub fn int_min(width: Width) -> u64
 }
 
 // A signed order from one on the bits: of different signs the negative number is the smaller.
+#[tactic(auto, using(crate::proofs::Laws::signs))]
 fn by_sign(width: Width, lhs: u64, rhs: u64, unsigned: bool) -> bool
     requires left { lhs < 2 ^ width.bits }
     requires right { rhs < 2 ^ width.bits }
@@ -171,6 +174,7 @@ fn abs(width: Width, v: u64) -> u64
 }
 
 // The quotient of the absolute values, negative where the signs differ.
+#[tactic(auto, using(crate::proofs::Laws::quotients))]
 pub fn sdiv(width: Width, lhs: u64, rhs: u64) -> u64
     requires left { lhs < 2 ^ width.bits }
     requires right { rhs < 2 ^ width.bits }
@@ -185,6 +189,7 @@ pub fn sdiv(width: Width, lhs: u64, rhs: u64) -> u64
 }
 
 // The remainder of the absolute values, with the dividend's sign.
+#[tactic(auto, using(crate::proofs::Laws::remainders))]
 pub fn srem(width: Width, lhs: u64, rhs: u64) -> u64
     requires left { lhs < 2 ^ width.bits }
     requires right { rhs < 2 ^ width.bits }
@@ -195,6 +200,7 @@ pub fn srem(width: Width, lhs: u64, rhs: u64) -> u64
 }
 
 // The remainder with the divisor's sign: where srem has the other one, the divisor is added.
+#[tactic(auto, using(crate::proofs::Laws::moduli))]
 pub fn smod(width: Width, lhs: u64, rhs: u64) -> u64
     requires left { lhs < 2 ^ width.bits }
     requires right { rhs < 2 ^ width.bits }
