@@ -10,7 +10,6 @@ ghost use Rattle.table.specs.Table.{row};
 ghost use Rattle.table.specs.Forms.{Passes};
 
 use arena::{TermPos, TypePos};
-use bitvec::Width;
 use nodes::{Cursor, TermStep, TypeStep};
 use runs::nth;
 
@@ -34,7 +33,7 @@ pub fn build_type(cells: &mut [u64], cursor: Cursor, op: u64, par: u64, xs: &[u6
     let none = [0u64; 1];
     match op {
         1 => cursor.type_node(cells, 1, 0, &none[..0]),
-        2 => factory_makers::bitvec_type(cells, cursor, Width(par)),
+        2 => factory_makers::bitvec_type(cells, cursor, par),
         3 => factory_makers::option_type(cells, cursor, ty),
         4 => factory_makers::set_type(cells, cursor, ty),
         _ => factory_makers::record_type(cells, cursor, xs),

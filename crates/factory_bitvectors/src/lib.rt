@@ -22,10 +22,12 @@ use nodes::{Cursor, TermStep, TypeStep};
 // The width of a bitvector term.
 fn width_of(cells: &[u64], cursor: Cursor, t: TermPos) -> Width
     requires { Ready (λ a. OfKind a 2 t.0) cells.now cursor.mark }
-    ensures { result.0 ≡ width_at (used cells.now cursor.mark) t.0 }
+    ensures { result.bits ≡ width_at (used cells.now cursor.mark) t.0 }
 {
     let ty = type_of(cells, cursor.mark, t);
-    Width(par_of(cells, cursor.mark, ty.0))
+    Width {
+        bits: par_of(cells, cursor.mark, ty.0),
+    }
 }
 
 pub fn bvneg(cells: &mut [u64], cursor: Cursor, t: TermPos) -> TermStep
@@ -138,7 +140,7 @@ pub fn zero_extend(cells: &mut [u64], cursor: Cursor, n: u64, t: TermPos) -> Ter
     ensures { Did (λ a. zero_extend_t a n t.0) cells.old cursor.mark (term_reply result) cells.new }
 {
     let width = width_of(cells, cursor, t);
-    match bitvec_type(cells, cursor, Width(width.0 + n)) {
+    match bitvec_type(cells, cursor, width.bits + n) {
         TypeStep::At(next, ty) => extended(cells, next, n, t, ty),
         TypeStep::Full => TermStep::Full,
     }

@@ -18,7 +18,6 @@ ghost use Rattle.arena.specs.Runs.{Holds};
 
 use arena::cells::{arg_of, type_of};
 use arena::{TermPos, TypePos};
-use bitvec::Width;
 use nodes::{Cursor, TermStep, TypeStep};
 use sorting::{fields, sorted};
 use walks::is_literal;
@@ -71,12 +70,12 @@ pub fn elem_of(cells: &[u64], cursor: Cursor, t: TermPos) -> TypePos
 
 // ---------- Types ----------
 
-pub fn bitvec_type(cells: &mut [u64], cursor: Cursor, width: Width) -> TypeStep
+pub fn bitvec_type(cells: &mut [u64], cursor: Cursor, width: u64) -> TypeStep
     requires { IsArena cells.old cursor.mark }
-    ensures { Did (λ a. bitvec_type a width.0) cells.old cursor.mark (type_reply result) cells.new }
+    ensures { Did (λ a. bitvec_type a width) cells.old cursor.mark (type_reply result) cells.new }
 {
     let none = [0u64; 1];
-    cursor.type_node(cells, 2, width.0, &none[..0])
+    cursor.type_node(cells, 2, width, &none[..0])
 }
 
 pub fn option_type(cells: &mut [u64], cursor: Cursor, ty: TypePos) -> TypeStep

@@ -1,14 +1,10 @@
 -- A difference of two natural numbers, as a whole number. Assumes nothing.
 use mathlib.Core.Path.{◌≡◌, sym, ap, ◌∙◌}
 use mathlib.Core.Bool.{Bool, cond}
-use Prim.Native.Nat.{ℕ, zero, suc, ◌-◌, ◌≤◌, ◌<◌}
+use Prim.Native.Nat.{ℕ, zero, suc, ◌-◌, ◌<◌}
 use native.Mathlib.Omega.{arith}
 use lib.IntN.{pos, negsuc, neg_ℤ, ◌-ℤ◌}
-use borrow.Author.Tests.{lt-ltb, le-ltb}
-
-pub sub_ge : (x y : ℕ) → y ≤ x → pos x -ℤ pos y ≡ pos (x - y)
-sub_ge x zero h = ap pos (omega arith)
-sub_ge x (suc k) h = ap (λ (b : Bool). cond b (negsuc (suc k - suc x)) (pos (x - suc k))) (le-ltb x (suc k) h)
+use borrow.Author.Tests.{lt-ltb}
 
 pub sub_lt : (x y : ℕ) → x < y → pos x -ℤ pos y ≡ neg_ℤ (pos (y - x))
 sub_lt x zero h = absurd (omega arith)

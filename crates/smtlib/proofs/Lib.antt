@@ -8,5 +8,4 @@ pub mod Division
 pub mod Columns
 pub mod Differences
 pub mod Orders
-pub mod Decisions
 pub mod Examples

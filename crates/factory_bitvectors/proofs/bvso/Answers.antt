@@ -15,8 +15,8 @@ par_of-rhs-requires c =
 
 pub bvso-requires : goal.bvso-requires
 bvso-requires c =
-    rw (c.width_of-width.ensures, c.par_of-lhs.ensures, c.par_of-rhs.ensures)
-    (two_bv (ready_wf c.requires.ready) c.args.t.0 c.args.u.0 c.requires.ready.fit.0 c.requires.ready.fit.1 (sym c.both_bv.ensures ∙ c.if-both_bv.true))
+    let p = two_bv (ready_wf c.requires.ready) c.args.t.0 c.args.u.0 c.requires.ready.fit.1 (sym c.both_bv.ensures ∙ c.if-both_bv.true) in
+    rw (c.width_of-width.ensures, c.par_of-lhs.ensures, c.par_of-rhs.ensures) (record { left = p.0; right = p.1 })
 
 pub returns-then-both_bv : goal.returns-then-both_bv
 unfolding bvso_t

@@ -2,7 +2,7 @@ use borrow.Author.Tests.{eq-eqb, ne_eqb}
 use mathlib.Core.Path.{sym, ◌∙◌}
 use Rattle.factory.specs.Bitvectors.{extended_to}
 use Rattle.factory.proofs.Calls.{term_pos, ready_wf}
-use Rattle.factory.proofs.Operands.{one_bv, wider}
+use Rattle.factory.proofs.Operands.{one_bv}
 use Rattle.arena.proofs.Steps.{picked}
 use Rattle.factory_bitvectors.proofs.extended.Goals as goal
 
@@ -13,7 +13,10 @@ pub par_of-v-requires : goal.par_of-v-requires
 par_of-v-requires c = record { below = c.requires.arena.below; bound = term_pos _ _ c.requires.fit.0.isterm }
 
 pub zero_extend-requires : goal.zero_extend-requires
-zero_extend-requires c = (rw (c.width_of-width.ensures, c.par_of-v.ensures) (one_bv (ready_wf c.requires) c.args.t.0 c.requires.fit.0 (sym c.kind_of.ensures ∙ c.if-kind_of-eq17.true)), wider (ready_wf c.requires) c.args.n c.width_of-width.ensures c.requires.fit.0 c.requires.fit.1)
+zero_extend-requires c = record {
+  below = rw (c.width_of-width.ensures, c.par_of-v.ensures) (one_bv (ready_wf c.requires) c.args.t.0 (sym c.kind_of.ensures ∙ c.if-kind_of-eq17.true));
+  wider = rw c.width_of-width.ensures c.requires.fit.1;
+}
 
 pub returns-then-kind_of-eq17 : goal.returns-then-kind_of-eq17
 unfolding extended_to
