@@ -126,6 +126,7 @@ pub fn ult(lhs: u64, rhs: u64) -> bool
     lhs < rhs
 }
 
+#[tactic(auto, using(crate::proofs::Laws::word), unfolding(smtlib::specs::Theory::bvadd, smtlib::specs::Theory::nat2bv))]
 pub fn add(width: Width, lhs: u64, rhs: u64) -> u64
     ensures { result ≡ bvadd width.bits lhs rhs }
 {
@@ -218,6 +219,7 @@ pub fn smod(width: Width, lhs: u64, rhs: u64) -> u64
 }
 
 // A shift by the width or more leaves nothing, and no word can be shifted that far.
+#[tactic(auto, using(crate::proofs::Laws::word, smtlib::proofs::Word::shl_out), unfolding(smtlib::specs::Theory::bvshl, smtlib::specs::Theory::nat2bv))]
 pub fn shl(width: Width, lhs: u64, rhs: u64) -> u64
     ensures { result ≡ bvshl width.bits lhs rhs }
 {
@@ -256,6 +258,7 @@ pub struct TwoWords {
 }
 
 // The whole product. Each factor is cut into halves of 32 bits, so that a product of two halves fits a word; the columns are added with their carries, as by hand in base 2^32.
+// A product of u128 would say the same: the columns stay for the must-fail edit carry_dropped, which spoils one.
 pub fn product(u: u64, v: u64) -> TwoWords
     ensures { result.high * 2 ^ 64 + result.low ≡ u * v }
 {

@@ -69,7 +69,7 @@ pub fn smulo(width: Width, lhs: u64, rhs: u64) -> bool
     overflows(width, to_int(width, lhs) * to_int(width, rhs))
 }
 
-// Operations 31 to 40 by number: a decision stands for the Rust's closure.
+// Operations 31 to 40 by number: a decision stands for the Rust's closure. An enum would not do, here and in the two below: the contract has an answer for every number.
 #[tactic(auto, unfolding(smtlib::specs::Numbered::bvapp_of))]
 pub fn bvapp(op: u64, width: Width, lhs: u64, rhs: u64) -> u64
     requires left { lhs < 2 ^ width.bits }

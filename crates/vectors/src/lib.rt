@@ -34,13 +34,10 @@ pub struct Count {
     pub different: u64,
 }
 
-// Stands for the length of a line that is longer than the room.
-const TOO_LONG: usize = 81;
-
 // The line that is being read, and what the lines before it gave.
 #[derive(Clone, Copy)]
 pub struct Replay {
-    // The line's first bytes, and how many it has so far. A library has no heap, so the room is fixed.
+    // The line's first bytes, and how many it has so far, which may be more. A library has no heap, so the room is fixed.
     pub text: [u8; 80],
     pub used: usize,
     // How many lines have ended.
@@ -96,7 +93,7 @@ fn is_known(operation: u64, second: u64) -> bool
     }
 }
 
-// Our answer to an operation from 30 to 48; that of a predicate is 0 or 1.
+// Our answer to an operation from 30 to 48, by document 01's number as the lists have it; that of a predicate is 0 or 1.
 #[tactic(auto, unfolding(crate::specs::Answers::plain_of))]
 fn answer(operation: u64, width: Width, first: u64, second: u64) -> u64
     requires le_operation { (30 ≤ operation) × (operation ≤ 48) }
@@ -174,7 +171,7 @@ impl Replay {
         }
     }
 
-    // What the bytes of the line are, of which there may be more than the room has.
+    // What the line is: a longer one than the room is no case.
     fn judged(&self) -> Line {
         match self.text.get(..self.used) {
             Some(line) => judge(line),
@@ -206,10 +203,8 @@ impl Replay {
         }
         if let Some(place) = self.text.get_mut(self.used) {
             *place = b;
-            self.used += 1;
-        } else {
-            self.used = TOO_LONG;
         }
+        self.used = self.used.saturating_add(1);
     }
 }
 
@@ -227,19 +222,17 @@ pub fn start() -> Replay {
 }
 
 // The next bytes.
-pub fn feed(r: Replay, s: &[u8]) -> Replay {
-    let mut next = r;
+pub fn feed(mut r: Replay, s: &[u8]) -> Replay {
     for b in s {
-        next.push(*b);
+        r.push(*b);
     }
-    next
+    r
 }
 
 // After the last byte: a line without a line end counts too.
-pub fn finish(r: Replay) -> Replay {
-    let mut last = r;
-    if last.used > 0 {
-        last.end_line();
+pub fn finish(mut r: Replay) -> Replay {
+    if r.used > 0 {
+        r.end_line();
     }
-    last
+    r
 }
