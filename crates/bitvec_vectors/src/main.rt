@@ -17,7 +17,8 @@ fn read_some(input: &mut impl Read, replay: Replay) -> io::Result<Option<Replay>
     Ok(Some(vectors::feed(replay, &buf[..n])))
 }
 
-// A proved loop has to end, and nothing says that the input does. So the loop counts its turns, to a number that no run reaches.
+// A proved loop has to end, and nothing says that the input does. So the loop counts its turns, to a number that no run reaches:
+// one without an end would take a Wait, which this repository has not.
 fn read_all(input: &mut impl Read) -> io::Result<Replay> {
     let mut replay = vectors::start();
     for _ in 0..u64::MAX {
@@ -29,10 +30,11 @@ fn read_all(input: &mut impl Read) -> io::Result<Replay> {
     Ok(vectors::finish(replay))
 }
 
-fn print_count(rt: &impl Print, name: &[u8], count: Count) -> io::Result<()> {
-    let (compared, different) = (count.compared, count.different);
-    rt.write_all(name)?;
-    println!(rt; "{compared} compared, {different} different")
+fn print_count(rt: &impl Print, name: &str, count: Count) -> io::Result<()> {
+    println!(rt;
+        "{name}: {} compared, {} different",
+        count.compared, count.different
+    )
 }
 
 fn print_lines(rt: &impl Print, numbers: [Option<u64>; 8]) -> io::Result<()> {
@@ -44,7 +46,7 @@ fn print_lines(rt: &impl Print, numbers: [Option<u64>; 8]) -> io::Result<()> {
 
 fn main(rt: HostRuntime) -> io::Result<()> {
     let replay = read_all(&mut rt.stdin())?;
-    print_count(&rt, b"original: ", replay.original)?;
-    print_count(&rt, b"solver: ", replay.solver)?;
+    print_count(&rt, "original", replay.original)?;
+    print_count(&rt, "solver", replay.solver)?;
     print_lines(&rt, replay.shown)
 }
