@@ -92,11 +92,9 @@ fn field_types(arena: &Arena<'_>, run: &[u64], types: &mut [u64])
     requires run_in_bounds { length run.now ≤ length types.old }
     ensures { Holds (field_types (nodes_of arena.now) run.now) types.old (length run.now) types.new }
 {
-    let mut i: usize = 0;
-    while i + 1 < run.len() {
-        types[i] = run[i];
-        types[i + 1] = arena.type_of(TermPos(run[i + 1])).0;
-        i += 2;
+    for i in 0..run.len() / 2 {
+        types[2 * i] = run[2 * i];
+        types[2 * i + 1] = arena.type_of(TermPos(run[2 * i + 1])).0;
     }
 }
 
