@@ -16,7 +16,7 @@ for crate in "${crates[@]}"; do
     mkdir "$build/$crate"
     for file in "crates/$crate"/src/*.rt; do
         # no contracts, slices passed as Rust passes them; native.rs has the functions that C calls
-        sed -E '/^ *((pub )?ghost|requires|ensures) |^#!?\[(tactic\(|unsafe\(no_mangle\))/d
+        sed -E '/^ *((pub )?ghost|requires|ensures) |^ *#!?\[(tactic\(|unsafe\(no_mangle\))/d
             s/std::num::wrapping_(add|sub|mul)_u64\(/u64::wrapping_\1(/; s/^pub extern "C" fn/pub fn/' \
             "$file" >"$build/$crate/$(basename "$file" .rt).rs"
     done

@@ -1,282 +1,168 @@
-// The test of each kind of node over the nodes below q.
+// The test of each kind of node over the nodes below it.
 
 #![tactic(auto)]
 
 ghost use Rattle.std.specs.Prelude.{◌≡◌, true, cond, [], ◌∷◌, length, get_or, eqb, leb};
 ghost use Rattle.arena.specs.Lists.{every, all, rising, same_list};
 ghost use Rattle.arena.specs.Nodes.{mem_at, arg_at, paired, field_types};
-ghost use Rattle.arena.specs.Cells.{used};
-ghost use Rattle.arena.specs.Walks.{set_free};
-ghost use Rattle.arena.specs.WellFormed.{field_run, is_type, kind_is, type_is, placed, type_test, maker_test, core_test, bv_test, data_test, kind_test, Below};
-ghost use Rattle.arena.specs.Lent.{Ready};
-ghost use Rattle.node_tests.specs.Decide.{ElemType, maker_on, core_on, bv_on, data_on};
+ghost use Rattle.arena.specs.View.{nodes_of};
+ghost use Rattle.arena.specs.WellFormed.{field_run, kind_is, type_is, placed, type_test, maker_test, core_test, bv_test, data_test, kind_test};
+ghost use Rattle.node_tests.specs.Decide.{ElemType};
 
-use arena::cells::View;
 use node_tests::Want;
-use node_tests::looks::{
-    all_suit, elem_at, fields_typed, kind_at, members_at, par_at, suits, type_at,
-};
+use node_tests::looks::Seen;
 use node_tests::tests::{fits_width, is_sum};
-use runs::{all2, all3, all4, all5, field_run, holds_field, nth, rises};
+use runs::{field, field_run, nth, rises};
 use walks::{has_fields, set_free};
 
-fn maker_on(k: u64, t: u64, p: u64, n: u64, kt: u64, wt: u64, tx: u64, et: u64) -> bool
-    ensures { result ≡ maker_on k t p n kt wt tx et }
-{
-    if k == 16 {
-        return all3(n == 0, p <= 1, t == 0);
-    }
-    if k == 17 {
-        return all3(n == 0, kt == 2, fits_width(p, wt));
-    }
-    if k == 18 {
-        return all3(n == 0, p == 0, kt == 3);
-    }
-    if k == 19 {
-        return all4(n == 1, p == 0, kt == 3, tx == et);
-    }
-    all3(k == 22, n == 0, p < 4294967296)
+// A node's numbers. The kind is no enum: any number may stand in a cell, and document 01's tests, which the contracts name, are on numbers.
+// The parameter stands first, since `==` compares in that order, and parameters differ most often.
+#[derive(Clone, Copy, PartialEq)]
+pub struct Node<'a> {
+    pub par: u64,
+    pub ty: u64,
+    pub kind: u64,
+    pub members: &'a [u64],
 }
 
-fn core_on(k: u64, t: u64, p: u64, n: u64, tx: u64, ty: u64, tz: u64) -> bool
-    ensures { result ≡ core_on k t p n tx ty tz }
+// 1 Bool, 2 Bitvec, 3 Option, 4 Set, 5 Record.
+#[tactic(auto, unfolding(arena::specs::Lists::every, arena::specs::WellFormed::type_test))]
+fn type_ok(seen: &Seen, n: &Node) -> bool
+    requires { n.now.kind ≡ 4 → ElemType (nodes_of seen.now.nodes) n.now.members.now }
+    ensures { result ≡ type_test (nodes_of seen.now.nodes) n.now.kind n.now.par n.now.members.now (get_or n.now.members.now 0 0) }
 {
-    if k == 120 {
-        return all4(n == 1, p == 0, t == 0, tx == 0);
+    let count = n.members.len();
+    match n.kind {
+        1 => count == 0 && n.par == 0,
+        2 => count == 0 && 1 <= n.par && n.par <= 64,
+        3 => count == 1 && n.par == 0,
+        4 => count == 1 && n.par == 0 && set_free(&seen.nodes, n.members[0] as usize),
+        _ => n.kind == 5 && n.par == 0 && field_run(n.members),
     }
-    if k == 121 {
-        return all5(n == 2, p == 0, t == 0, tx == 0, ty == 0);
-    }
-    if k == 122 {
-        return all5(n == 2, p == 0, t == 0, tx == 0, ty == 0);
-    }
-    if k == 124 {
-        return all4(n == 2, p == 0, t == 0, ty == tx);
-    }
-    if k == 125 {
-        return all5(n == 3, p == 0, tx == 0, ty == t, tz == t);
-    }
-    all3(k == 126, n == 1, p < 4294967296)
 }
 
-fn bv_on(
-    k: u64,
-    t: u64,
-    p: u64,
-    n: u64,
-    kt: u64,
-    wt: u64,
-    tx: u64,
-    ty: u64,
-    kx: u64,
-    wx: u64,
-) -> bool
-    ensures { result ≡ bv_on k t p n kt wt tx ty kx wx }
+// 16 bool literal, 17 bitvec literal, 18 None, 19 Some, 20 Set, 21 Record, 22 variable.
+#[tactic(auto, unfolding(arena::specs::Lists::every, arena::specs::WellFormed::maker_test))]
+fn maker_ok(seen: &Seen, n: &Node) -> bool
+    ensures { result ≡ maker_test (nodes_of seen.now.nodes) n.now.kind n.now.ty n.now.par n.now.members.now (get_or n.now.members.now 0 0) }
 {
-    if k == 130 {
-        return all4(n == 1, p == 0, kt == 2, tx == t);
+    let count = n.members.len();
+    match n.kind {
+        16 => count == 0 && n.par <= 1 && n.ty == 0,
+        17 => count == 0 && seen.kind_at(n.ty) == 2 && fits_width(n.par, seen.par_at(n.ty)),
+        18 => count == 0 && n.par == 0 && seen.kind_at(n.ty) == 3,
+        19 => count == 1
+            && n.par == 0
+            && seen.kind_at(n.ty) == 3
+            && seen.type_at(nth(n.members, 0)) == seen.elem_at(n.ty),
+        20 => count <= 256
+            && n.par == 0
+            && seen.kind_at(n.ty) == 4
+            && rises(n.members, 1)
+            && seen.all_suit(Want::Of(seen.elem_at(n.ty)), n.members, 1),
+        21 => field_run(n.members)
+            && n.par == 0
+            && seen.kind_at(n.ty) == 5
+            && seen.fields_typed(seen.members_at(n.ty), n.members),
+        _ => n.kind == 22 && count == 0 && n.par < 4294967296,
     }
-    if k <= 140 {
-        return all5(n == 2, p == 0, kt == 2, tx == t, ty == t);
-    }
-    if k == 145 {
-        return all4(n == 1, p == 0, t == 0, kx == 2);
-    }
-    if k == 149 {
-        return all4(n == 1, kt == 2, kx == 2, is_sum(wt, wx, p));
-    }
-    all5(n == 2, p == 0, t == 0, kx == 2, ty == tx)
 }
 
-fn data_on(
-    k: u64,
-    t: u64,
-    p: u64,
-    n: u64,
-    kt: u64,
-    tx: u64,
-    ty: u64,
-    kx: u64,
-    ky: u64,
-    ex: u64,
-    ey: u64,
-    f: bool,
-) -> bool
-    ensures { result ≡ data_on k t p n kt tx ty kx ky ex ey f }
+// 120 not, 121 and, 122 or, 124 eq, 125 ite, 126 uninterpreted.
+#[tactic(auto, unfolding(arena::specs::Lists::every, arena::specs::WellFormed::core_test))]
+fn core_ok(seen: &Seen, n: &Node) -> bool
+    ensures { result ≡ core_test (nodes_of seen.now.nodes) n.now.kind n.now.ty n.now.par (length n.now.members.now) (get_or n.now.members.now 0 0) (get_or n.now.members.now 1 0) (get_or n.now.members.now 2 0) }
 {
-    if k == 150 {
-        return all5(n == 2, p == 0, t == 0, ky == 4, tx == ey);
+    let count = n.members.len();
+    let tx = seen.type_at(nth(n.members, 0));
+    let ty = seen.type_at(nth(n.members, 1));
+    let tz = seen.type_at(nth(n.members, 2));
+    match n.kind {
+        120 => count == 1 && n.par == 0 && n.ty == 0 && tx == 0,
+        121 => count == 2 && n.par == 0 && n.ty == 0 && tx == 0 && ty == 0,
+        122 => count == 2 && n.par == 0 && n.ty == 0 && tx == 0 && ty == 0,
+        124 => count == 2 && n.par == 0 && n.ty == 0 && ty == tx,
+        125 => count == 3 && n.par == 0 && tx == 0 && ty == n.ty && tz == n.ty,
+        _ => n.kind == 126 && count == 1 && n.par < 4294967296,
     }
-    if k == 151 {
-        return all5(n == 2, p == 0, t == 0, kx == 4, ty == tx);
-    }
-    if k == 152 {
-        return all5(n == 2, p == 0, kt == 4, tx == t, ty == t);
-    }
-    if k == 155 {
-        return all4(n == 1, p == 0, kx == 3, ex == t);
-    }
-    all5(k == 156, n == 1, p < 4294967296, kx == 5, f)
 }
 
-// One member, parameter 0, and no set in the member.
-fn set_type_ok(cells: &[u64], q: usize, p: u64, run: &[u64]) -> bool
-    requires below { Below cells.now q }
-    requires elem_type { ElemType (used cells.now q) run.now }
-    ensures { result ≡ every (eqb (length run.now) 1 ∷ eqb p 0 ∷ set_free (used cells.now q) (get_or run.now 0 0) ∷ []) }
+// 130 neg, 131 to 140 with a bitvector, 141 to 148 with a Bool (145 nego has one operand), 149 zero_extend.
+#[tactic(auto, unfolding(arena::specs::Lists::every, arena::specs::WellFormed::bv_test))]
+fn bv_ok(seen: &Seen, n: &Node) -> bool
+    ensures { result ≡ bv_test (nodes_of seen.now.nodes) n.now.kind n.now.ty n.now.par (length n.now.members.now) (get_or n.now.members.now 0 0) (get_or n.now.members.now 1 0) }
 {
-    if run.len() != 1 {
-        return false;
+    let count = n.members.len();
+    let tx = seen.type_at(nth(n.members, 0));
+    let ty = seen.type_at(nth(n.members, 1));
+    match n.kind {
+        130 => count == 1 && n.par == 0 && seen.kind_at(n.ty) == 2 && tx == n.ty,
+        ..=140 => count == 2 && n.par == 0 && seen.kind_at(n.ty) == 2 && tx == n.ty && ty == n.ty,
+        145 => count == 1 && n.par == 0 && n.ty == 0 && seen.kind_at(tx) == 2,
+        149 => count == 1
+            && seen.kind_at(n.ty) == 2
+            && seen.kind_at(tx) == 2
+            && is_sum(seen.par_at(n.ty), seen.par_at(tx), n.par),
+        _ => count == 2 && n.par == 0 && n.ty == 0 && seen.kind_at(tx) == 2 && ty == tx,
     }
-    let nodes = View { cells, mark: q };
-    all3(run.len() == 1, p == 0, set_free(&nodes, run[0] as usize))
 }
 
-fn type_ok(cells: &[u64], q: usize, k: u64, p: u64, run: &[u64]) -> bool
-    requires below { Below cells.now q }
-    requires elem_type { k ≡ 4 → ElemType (used cells.now q) run.now }
-    ensures { result ≡ type_test (used cells.now q) k p run.now (get_or run.now 0 0) }
+// 150 member, 151 subset, 152 inter, 155 option_get, 156 record_get.
+#[tactic(auto, using(runs::proofs::Given::given_holds), unfolding(arena::specs::Lists::every, arena::specs::WellFormed::data_test))]
+fn data_ok(seen: &Seen, n: &Node) -> bool
+    ensures { result ≡ data_test (nodes_of seen.now.nodes) n.now.kind n.now.ty n.now.par (length n.now.members.now) (get_or n.now.members.now 0 0) (get_or n.now.members.now 1 0) }
 {
-    if k == 1 {
-        return all2(run.len() == 0, p == 0);
+    let count = n.members.len();
+    let tx = seen.type_at(nth(n.members, 0));
+    let ty = seen.type_at(nth(n.members, 1));
+    match n.kind {
+        150 => count == 2
+            && n.par == 0
+            && n.ty == 0
+            && seen.kind_at(ty) == 4
+            && tx == seen.elem_at(ty),
+        151 => count == 2 && n.par == 0 && n.ty == 0 && seen.kind_at(tx) == 4 && ty == tx,
+        152 => count == 2 && n.par == 0 && seen.kind_at(n.ty) == 4 && tx == n.ty && ty == n.ty,
+        155 => count == 1 && n.par == 0 && seen.kind_at(tx) == 3 && seen.elem_at(tx) == n.ty,
+        _ => n.kind == 156
+            && count == 1
+            && n.par < 4294967296
+            && seen.kind_at(tx) == 5
+            && field(seen.members_at(tx), n.par) == Some(n.ty),
     }
-    if k == 2 {
-        return all3(run.len() == 0, 1 <= p, p <= 64);
-    }
-    if k == 3 {
-        return all2(run.len() == 1, p == 0);
-    }
-    if k == 4 {
-        return set_type_ok(cells, q, p, run);
-    }
-    all3(k == 5, p == 0, field_run(run))
 }
 
-// A set's members rise and are of its element type.
-fn set_ok(cells: &[u64], starts: &[u8], q: usize, t: u64, p: u64, run: &[u64]) -> bool
-    requires { Ready cells.now q starts.now }
-    ensures { result ≡ every (leb (length run.now) 256 ∷ eqb p 0 ∷ kind_is (used cells.now q) t 4 ∷ rising run.now ∷ all (λ x. type_is (used cells.now q) x (arg_at (used cells.now q) t 0)) run.now ∷ []) }
+// Types, counts and parameters, by ranges of kinds.
+#[tactic(auto, unfolding(arena::specs::WellFormed::kind_test))]
+pub fn kind_ok(seen: &Seen, n: &Node) -> bool
+    requires { n.now.kind ≡ 4 → ElemType (nodes_of seen.now.nodes) n.now.members.now }
+    ensures { result ≡ kind_test (nodes_of seen.now.nodes) n.now.kind n.now.ty n.now.par n.now.members.now (get_or n.now.members.now 0 0) (get_or n.now.members.now 1 0) (get_or n.now.members.now 2 0) }
 {
-    let kt = kind_at(cells, starts, q, t);
-    let et = elem_at(cells, starts, q, t);
-    all5(
-        run.len() <= 256,
-        p == 0,
-        kt == 4,
-        rises(run, 1),
-        all_suit(cells, starts, q, Want::Of(et), run, 1),
-    )
-}
-
-// A record's attributes rise, and its type has them with its terms' types.
-fn record_ok(cells: &[u64], starts: &[u8], q: usize, t: u64, p: u64, run: &[u64]) -> bool
-    requires { Ready cells.now q starts.now }
-    ensures { result ≡ every (field_run run.now ∷ eqb p 0 ∷ kind_is (used cells.now q) t 5 ∷ same_list (mem_at (used cells.now q) t) (field_types (used cells.now q) run.now) ∷ []) }
-{
-    let kt = kind_at(cells, starts, q, t);
-    let types = members_at(cells, starts, q, t);
-    all4(
-        field_run(run),
-        p == 0,
-        kt == 5,
-        fields_typed(cells, starts, q, types, run),
-    )
-}
-
-fn maker_ok(cells: &[u64], starts: &[u8], q: usize, k: u64, t: u64, p: u64, run: &[u64]) -> bool
-    requires { Ready cells.now q starts.now }
-    ensures { result ≡ maker_test (used cells.now q) k t p run.now (get_or run.now 0 0) }
-{
-    if k == 20 {
-        return set_ok(cells, starts, q, t, p, run);
+    match n.kind {
+        ..=15 => type_ok(seen, n),
+        ..=99 => maker_ok(seen, n),
+        ..=129 => core_ok(seen, n),
+        ..=149 => bv_ok(seen, n),
+        _ => data_ok(seen, n),
     }
-    if k == 21 {
-        return record_ok(cells, starts, q, t, p, run);
-    }
-    let kt = kind_at(cells, starts, q, t);
-    let wt = par_at(cells, starts, q, t);
-    let tx = type_at(cells, starts, q, nth(run, 0));
-    let et = elem_at(cells, starts, q, t);
-    maker_on(k, t, p, run.len() as u64, kt, wt, tx, et)
-}
-
-fn core_ok(cells: &[u64], starts: &[u8], q: usize, k: u64, t: u64, p: u64, run: &[u64]) -> bool
-    requires { Ready cells.now q starts.now }
-    ensures { result ≡ core_test (used cells.now q) k t p (length run.now) (get_or run.now 0 0) (get_or run.now 1 0) (get_or run.now 2 0) }
-{
-    let tx = type_at(cells, starts, q, nth(run, 0));
-    let ty = type_at(cells, starts, q, nth(run, 1));
-    let tz = type_at(cells, starts, q, nth(run, 2));
-    core_on(k, t, p, run.len() as u64, tx, ty, tz)
-}
-
-fn bv_ok(cells: &[u64], starts: &[u8], q: usize, k: u64, t: u64, p: u64, run: &[u64]) -> bool
-    requires { Ready cells.now q starts.now }
-    ensures { result ≡ bv_test (used cells.now q) k t p (length run.now) (get_or run.now 0 0) (get_or run.now 1 0) }
-{
-    let kt = kind_at(cells, starts, q, t);
-    let wt = par_at(cells, starts, q, t);
-    let tx = type_at(cells, starts, q, nth(run, 0));
-    let ty = type_at(cells, starts, q, nth(run, 1));
-    let kx = kind_at(cells, starts, q, tx);
-    let wx = par_at(cells, starts, q, tx);
-    bv_on(k, t, p, run.len() as u64, kt, wt, tx, ty, kx, wx)
-}
-
-fn data_ok(cells: &[u64], starts: &[u8], q: usize, k: u64, t: u64, p: u64, run: &[u64]) -> bool
-    requires { Ready cells.now q starts.now }
-    ensures { result ≡ data_test (used cells.now q) k t p (length run.now) (get_or run.now 0 0) (get_or run.now 1 0) }
-{
-    let kt = kind_at(cells, starts, q, t);
-    let tx = type_at(cells, starts, q, nth(run, 0));
-    let ty = type_at(cells, starts, q, nth(run, 1));
-    let kx = kind_at(cells, starts, q, tx);
-    let ky = kind_at(cells, starts, q, ty);
-    let ex = elem_at(cells, starts, q, tx);
-    let ey = elem_at(cells, starts, q, ty);
-    let f = holds_field(members_at(cells, starts, q, tx), p, t);
-    data_on(k, t, p, run.len() as u64, kt, tx, ty, kx, ky, ex, ey, f)
-}
-
-// Types, counts and parameters.
-pub fn kind_ok(cells: &[u64], starts: &[u8], q: usize, k: u64, t: u64, p: u64, run: &[u64]) -> bool
-    requires ready { Ready cells.now q starts.now }
-    requires elem_type { k ≡ 4 → ElemType (used cells.now q) run.now }
-    ensures { result ≡ kind_test (used cells.now q) k t p run.now (get_or run.now 0 0) (get_or run.now 1 0) (get_or run.now 2 0) }
-{
-    if k <= 15 {
-        return type_ok(cells, q, k, p, run);
-    }
-    if k <= 99 {
-        return maker_ok(cells, starts, q, k, t, p, run);
-    }
-    if k <= 129 {
-        return core_ok(cells, starts, q, k, t, p, run);
-    }
-    if k <= 149 {
-        return bv_ok(cells, starts, q, k, t, p, run);
-    }
-    data_ok(cells, starts, q, k, t, p, run)
 }
 
 // How far apart the positions among a node's members are.
-fn stride(k: u64) -> usize
-    ensures { result ≡ cond (paired k) 2 1 }
+fn stride(kind: u64) -> usize
+    ensures { result ≡ cond (paired kind) 2 1 }
 {
-    if has_fields(k) { 2 } else { 1 }
+    if has_fields(kind) { 2 } else { 1 }
 }
 
 // Whether every position in the node is lower and of the right sort.
-pub fn placed_ok(cells: &[u64], starts: &[u8], q: usize, k: u64, t: u64, run: &[u64]) -> bool
-    requires { Ready cells.now q starts.now }
-    ensures { result ≡ placed (used cells.now q) k t run.now }
+#[tactic(auto, using(node_tests::proofs::Arms::held_positions), unfolding(arena::specs::Lists::every, arena::specs::WellFormed::placed))]
+pub fn placed_ok(seen: &Seen, n: &Node) -> bool
+    ensures { result ≡ placed (nodes_of seen.now.nodes) n.now.kind n.now.ty n.now.members.now }
 {
-    let step = stride(k);
-    if k <= 15 {
-        return all2(t == 0, all_suit(cells, starts, q, Want::Kind, run, step));
+    let step = stride(n.kind);
+    if n.kind <= 15 {
+        n.ty == 0 && seen.all_suit(Want::Kind, n.members, step)
+    } else {
+        seen.suits(Want::Kind, n.ty) && seen.all_suit(Want::Term, n.members, step)
     }
-    all2(
-        suits(cells, starts, q, Want::Kind, t),
-        all_suit(cells, starts, q, Want::Term, run, step),
-    )
 }

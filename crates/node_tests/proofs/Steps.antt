@@ -1,38 +1,23 @@
--- From node to node: two nodes in the cells, where nodes start, and the loop up to the mark.
+-- From node to node: the first tests, and the loop up to the mark.
 use mathlib.Core.Path.{◌≡◌, refl, sym, ap, ◌∙◌, subst}
 use Prim.Native.Nat.{ℕ, ◌*◌, ◌≤◌, ◌<◌}
 use native.Mathlib.Omega.{arith}
 use mathlib.Core.Bool.{Bool, true, false}
-use mathlib.Core.List.{List}
+use mathlib.Core.List.{List, [], ◌∷◌}
 use lib.ListN.{length, take, drop, set, replicate, length-set, length-replicate}
-use lib.Dec.{eqb}
-use borrow.Author.Tests.{eq-eqb}
-use Rattle.arena.specs.Lists.{all, same_list}
-use Rattle.arena.specs.Nodes.{Node, Nodes, same, fresh}
+use lib.Dec.{eqb, leb}
+use borrow.Author.Tests.{le-leb, leb-true}
+use Rattle.arena.specs.Lists.{every, within, all, same_list}
+use Rattle.arena.specs.Nodes.{Nodes, fresh}
 use Rattle.arena.specs.Cells.{cells, used, node_here, after}
 use Rattle.arena.specs.WellFormed.{good_node, absent, clear, formed, Below}
 use Rattle.arena.specs.Lent.{Starts}
-use Rattle.arena.proofs.Bools.{t≢f, every_on, every_one}
+use Rattle.arena.proofs.Bools.{t≢f, every-all}
 use Rattle.arena.proofs.Runs.{same_list_lem, same_refl}
-use Rattle.arena.proofs.Put.{same-node}
 use Rattle.arena.proofs.Formed.{arena-formed, not_formed}
 use Rattle.arena.proofs.Tiling.{must_fit, must_good, must_new, fresh-below, fresh-used, must_fresh}
 use Rattle.arena.proofs.Lent.{starts-fresh}
 use Rattle.node_tests.specs.Decide.{First}
-
--- ---- two nodes
-
-pub differ : (m n : Node) → (m ≡ n → ⊥) → false ≡ same m n
-differ m n h = go (same m n) refl
-  where
-    go : (b : Bool) → same m n ≡ b → false ≡ same m n
-    go true e = absurd (h (same-node m n e))
-    go false e = sym e
-
-pub alike : (m n : Node) (r : Bool) → m.kind ≡ n.kind → m.type ≡ n.type → m.par ≡ n.par → r ≡ same_list m.mem n.mem → r ≡ same m n
-unfolding same
-alike m n r k t p e =
-    every_on _ r _ (eq-eqb _ _ k) (every_on _ r _ (eq-eqb _ _ t) (every_on _ r _ (eq-eqb _ _ p) (e ∙ every_one (same_list m.mem n.mem))))
 
 -- ---- the loop over the nodes
 
@@ -74,18 +59,19 @@ at_end {c} {m} F B e = sym (arena-formed c m (record { below = subst (Below c) e
 
 -- ---- the first tests
 
+inside : (lo hi x : ℕ) → lo ≤ x → x ≤ hi → within lo hi x ≡ true
+unfolding every
+inside lo hi x a b = rw (le-leb lo x a, le-leb x hi b) refl
+
+bounds : (lo hi x : ℕ) → within lo hi x ≡ true → (lo ≤ x) × (x ≤ hi)
+bounds lo hi x h = let t = every-all (leb lo x ∷ leb x hi ∷ []) h in (leb-true _ _ t.0, leb-true _ _ t.1.0)
+
 module _ (c : List ℕ) (m : ℕ) where
-  pub too_short : length c < 12 → false ≡ formed c m
-  too_short h = not_formed c m (λ A. let x = A.below.least in let y = A.below.fits in omega arith)
+  pub bad_length : within 12 65536 (length c) ≡ false → false ≡ formed c m
+  bad_length h = not_formed c m (λ A. let x = A.below.least in let y = A.below.fits in t≢f (sym (inside 12 65536 (length c) (omega arith) A.below.short) ∙ h))
 
-  pub too_long : 65536 < length c → false ≡ formed c m
-  too_long h = not_formed c m (λ A. let x = A.below.short in omega arith)
-
-  pub above : length c < m → false ≡ formed c m
-  above h = not_formed c m (λ A. let x = A.below.fits in omega arith)
-
-  pub too_few : m < 12 → false ≡ formed c m
-  too_few h = not_formed c m (λ A. let x = A.below.least in omega arith)
+  pub bad_mark : within 12 (length c) m ≡ false → false ≡ formed c m
+  bad_mark h = not_formed c m (λ A. t≢f (sym (inside 12 (length c) m A.below.least A.below.fits) ∙ h))
 
   pub not_zeros : (r : Bool) → r ≡ all (λ x. eqb x 0) (drop m c) → r ≡ false → false ≡ formed c m
   unfolding clear
@@ -96,17 +82,19 @@ module _ (c : List ℕ) (m : ℕ) where
       let f = must_fresh A.below in
       t≢f (sym (same_refl (cells fresh)) ∙ ap (λ (l : List ℕ). same_list l (cells fresh)) (sym f) ∙ sym e ∙ z))
 
-  pub first : (r s : Bool) → 12 ≤ length c → length c ≤ 65536 → m ≤ length c → 12 ≤ m
+  pub first : (r s : Bool) → within 12 65536 (length c) ≡ true → within 12 (length c) m ≡ true
       → r ≡ all (λ x. eqb x 0) (drop m c) → r ≡ true → s ≡ same_list (take 12 c) (cells fresh) → s ≡ true
       → First c m (set (set (set (replicate 16384 0) 0 1) 1 1) 2 1)
   unfolding clear
-  first r s h1 h2 h3 h4 e z d y =
+  first r s h k e z d y =
+      let long = bounds 12 65536 (length c) h in
+      let mark = bounds 12 (length c) m k in
       let w = same_list_lem (take 12 c) (cells fresh) (sym d ∙ y) in
       record {
-        least = h4;
-        fits = h3;
+        least = mark.0;
+        fits = mark.1;
         zeros = sym e ∙ z;
-        below = fresh-below c h1 h2 w;
+        below = fresh-below c long.0 long.1 w;
         starts = subst (λ (a : Nodes). Starts a (set (set (set (replicate 16384 0) 0 1) 1 1) 2 1)) (sym (fresh-used c w)) (starts-fresh 16384 (omega arith));
         long = go (replicate 16384 0) (length-replicate {A = ℕ} 16384 0);
       }

@@ -1,5 +1,4 @@
 -- The laws of the tests on runs.
-pub mod Turns
 pub mod Pairs
 pub mod Given
 pub mod Gives

@@ -4,38 +4,31 @@
 
 ghost use Rattle.std.specs.Prelude.{◌≡◌, true, ◌≤◌, length, take};
 ghost use Rattle.arena.specs.Lists.{same_list};
-ghost use Rattle.arena.specs.Nodes.{same, fresh};
+ghost use Rattle.arena.specs.Nodes.{fresh};
 ghost use Rattle.arena.specs.Cells.{cells as cells_in, used, node_here, after};
+ghost use Rattle.arena.specs.View.{nodes_of};
 ghost use Rattle.arena.specs.WellFormed.{good_node, absent, formed, Below};
-ghost use Rattle.arena.specs.Lent.{Ready};
 ghost use Rattle.node_tests.specs.Decide.{First};
+ghost use Rattle.node_kinds.specs.Numbers.{node_of};
 
-// The members of the node at p.
-fn members(cells: &[u64], p: usize) -> &[u64]
+use arena::cells::View;
+use node_kinds::{Node, kind_ok, placed_ok};
+use node_tests::looks::Seen;
+
+// The node whose cells begin at p.
+#[tactic(auto, unfolding(arena::specs::Cells::node_here))]
+fn read(cells: &[u64], p: usize) -> Node<'_>
     requires { after cells.now p ≤ length cells.now }
-    ensures { result.now ≡ (node_here cells.now p).mem }
+    ensures { node_of result ≡ node_here cells.now p }
 {
-    let a = p + 4;
-    let e = a + cells[p + 3] as usize;
-    &cells[a..e]
-}
-
-// Whether the nodes at p and q have the same cells. Parameters differ most often.
-fn same_node(cells: &[u64], p: usize, q: usize) -> bool
-    requires p_in_bounds { after cells.now p ≤ length cells.now }
-    requires q_in_bounds { after cells.now q ≤ length cells.now }
-    ensures { result ≡ same (node_here cells.now p) (node_here cells.now q) }
-{
-    if cells[p + 2] != cells[q + 2] {
-        return false;
+    let from = p + 4;
+    let end = from + cells[p + 3] as usize;
+    Node {
+        par: cells[p + 2],
+        ty: cells[p + 1],
+        kind: cells[p],
+        members: &cells[from..end],
     }
-    if cells[p + 1] != cells[q + 1] {
-        return false;
-    }
-    if cells[p] != cells[q] {
-        return false;
-    }
-    runs::same_run(members(cells, p), members(cells, q))
 }
 
 // Whether no node below q has the cells of the good node at q. It would stand above the last member, so the search begins there; behind a count
@@ -47,30 +40,27 @@ fn is_new(cells: &[u64], q: usize) -> bool
     requires q_value { good_node (used cells.now q) (node_here cells.now q) ≡ true }
     ensures { result ≡ absent (used cells.now q) (node_here cells.now q) }
 {
+    let node = read(cells, q);
     let last = q + 3 + cells[q + 3] as usize;
     let mut p = cells[last] as usize;
     while p < q {
-        if same_node(cells, p, q) {
+        let other = read(cells, p);
+        if other == node {
             return false;
         }
-        p = p + (4 + cells[p + 3] as usize);
+        p += 4 + other.members.len();
     }
     true
 }
 
-// Whether the node at q is good over the nodes below it.
-fn good_node(cells: &[u64], starts: &[u8], q: usize) -> bool
-    requires { Ready cells.now q starts.now }
-    ensures { result ≡ good_node (used cells.now q) (node_here cells.now q) }
+// Whether the node at the mark is good over the nodes below it.
+#[tactic(auto, using(node_tests::proofs::Arms::elem_type), unfolding(arena::specs::Lists::every, arena::specs::WellFormed::good_node))]
+fn good_node(seen: &Seen) -> bool
+    requires { after seen.now.nodes.cells.now seen.now.nodes.mark ≤ length seen.now.nodes.cells.now }
+    ensures { result ≡ good_node (nodes_of seen.now.nodes) (node_here seen.now.nodes.cells.now seen.now.nodes.mark) }
 {
-    let k = cells[q];
-    let t = cells[q + 1];
-    let p = cells[q + 2];
-    let run = members(cells, q);
-    if !node_kinds::placed_ok(cells, starts, q, k, t, run) {
-        return false;
-    }
-    node_kinds::kind_ok(cells, starts, q, k, t, p, run)
+    let node = read(seen.nodes.cells, seen.nodes.mark);
+    placed_ok(seen, &node) && kind_ok(seen, &node)
 }
 
 // Whether good new nodes fill the cells from 12 up to the mark.
@@ -87,14 +77,13 @@ fn nodes_follow(cells: &[u64], mark: usize, starts: &mut [u8]) -> bool
         if n > (mark - q - 4) as u64 {
             return false;
         }
-        if !good_node(cells, starts, q) {
-            return false;
-        }
-        if !is_new(cells, q) {
+        let nodes = View { cells, mark: q };
+        let seen = Seen { nodes, starts };
+        if !good_node(&seen) || !is_new(cells, q) {
             return false;
         }
         starts[q / 4] = (q % 4 + 1) as u8;
-        q = q + (4 + n as usize);
+        q += 4 + n as usize;
     }
     true
 }
@@ -104,24 +93,17 @@ fn starts_fresh(cells: &[u64]) -> bool
     requires { 12 ≤ length cells.now }
     ensures { result ≡ same_list (take 12 cells.now) (cells_in fresh) }
 {
-    let fresh = [1u64, 0, 0, 0, 16, 0, 0, 0, 16, 0, 1, 0];
-    runs::same_run(&cells[..12], &fresh)
+    cells.starts_with(&[1, 0, 0, 0, 16, 0, 0, 0, 16, 0, 1, 0])
 }
 
 // Whether the lent cells and the mark are a well-formed arena.
 pub fn is_formed(cells: &[u64], mark: u64) -> bool
     ensures { result ≡ formed cells.now mark }
 {
-    if cells.len() < 12 {
+    if !(12..=65536).contains(&cells.len()) {
         return false;
     }
-    if cells.len() > 65536 {
-        return false;
-    }
-    if mark > cells.len() as u64 {
-        return false;
-    }
-    if mark < 12 {
+    if !(12..=cells.len() as u64).contains(&mark) {
         return false;
     }
     let m = mark as usize;

@@ -1,10 +1,12 @@
 // Times the well-formedness test on arenas filled with one mix of nodes. run.sh puts the modules beside this file.
+mod arena;
 mod node_kinds;
 mod node_tests;
 mod runs;
 mod walks;
 mod wellformed;
 
+use arena::cells::View;
 use std::hint::black_box;
 use std::time::Instant;
 
@@ -95,9 +97,11 @@ fn main() {
         println!("| {name} | {a:.1} | {b:.1} | {c:.0} |");
     }
     let (cells, mark, last) = filled(BOOL, record_type, 65536);
-    let time = best(|| walks::set_free(&cells, mark, last));
+    let nodes = View { cells: &cells, mark };
+    let time = best(|| walks::set_free(&nodes, last));
     println!("nested-set test of the last record type: {time:.2} ms");
     let (cells, mark, last) = filled(FALSE, record, 65536);
-    let time = best(|| walks::is_literal(&cells, mark, last));
+    let nodes = View { cells: &cells, mark };
+    let time = best(|| walks::is_literal(&nodes, last));
     println!("literal test of the last record over it: {time:.2} ms");
 }

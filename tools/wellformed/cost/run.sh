@@ -6,15 +6,16 @@ crates=../../../crates
 build=$(mktemp -d)
 trap 'rm -rf "$build"' EXIT
 
-# A Rattle file as Rust: no contracts, each crate a module.
+# A Rattle file of a crate as Rust: no contracts, each crate a module.
 as_rust() {
-    sed -E '/^ *(ghost use|requires|ensures) |^#!?\[tactic\(/d; s/\b(walks|runs|node_tests|node_kinds)::/crate::&/g' "$1" >"$2"
+    sed -E "/^ *((pub )?ghost|requires|ensures) |^ *#!?\[tactic\(/d; s/\bcrate::/&$1::/g; s/\b(arena|walks|runs|node_tests|node_kinds)::/crate::&/g
+        s/crate::crate::/crate::/g" "$2" >"$3"
 }
 
-for crate in walks runs node_tests node_kinds wellformed; do
+for crate in arena walks runs node_tests node_kinds wellformed; do
     mkdir "$build/$crate"
     for file in "$crates/$crate"/src/*.rt; do
-        as_rust "$file" "$build/$crate/$(basename "$file" .rt).rs"
+        as_rust "$crate" "$file" "$build/$crate/$(basename "$file" .rt).rs"
     done
     mv "$build/$crate/lib.rs" "$build/$crate/mod.rs"
 done

@@ -1,39 +1,35 @@
-use mathlib.Core.Path.{sym, ◌∙◌}
-use native.Mathlib.Omega.{arith}
-use Rattle.arena.proofs.Scan.{scan_fits, scan_hit, scan_miss, scan_end, find_absent}
-use Rattle.arena.proofs.Formed.{none_absent}
+use Rattle.std.proofs.Common.{length, sym, ap, ap₂, ◌∙◌, arith}
+use Rattle.arena.specs.Nodes.{Node, same}
 use Rattle.arena.specs.Cells.{used, node_here}
+use Rattle.arena.proofs.Formed.{none_absent}
+use Rattle.arena.proofs.Scan.{scan_fits, scan_hit, scan_miss, scan_end, find_absent}
+use Rattle.arena.proofs.Tiling.{here-count}
+use Rattle.node_kinds.proofs.Numbers.{eq_same}
 use Rattle.wellformed.proofs.Last.{from_last}
 use Rattle.wellformed.proofs.is_new.Goals as goal
 
 pub loop-p-init : goal.loop-p-init
 loop-p-init c = from_last c.requires.below c.requires.q_in_bounds c.requires.q_value
 
-pub same_node-requires : goal.same_node-requires
-same_node-requires c =
+pub read-other-requires : goal.read-other-requires
+read-other-requires c = omega (arith, scan_fits c.requires.below _ c.loop-p.p c.loop-p.invariant.0 c.loop-p-test.true, c.requires.below.fits)
+
+pub returns-then-eq : goal.returns-then-eq
+returns-then-eq c =
+    let a = c.args in
     let l = c.loop-p in
-    let f = scan_fits c.requires.below _ l.p l.invariant.0 (omega arith) in
-    let g = c.requires.below.fits in
-    record { p_in_bounds = omega arith; q_in_bounds = c.requires.q_in_bounds }
-
-pub returns-then-same_node : goal.returns-then-same_node
-returns-then-same_node c =
-    let l = c.loop-p in
-    sym (find_absent (used c.args.cells.now c.args.q) (node_here c.args.cells.now c.args.q) l.p (scan_hit c.requires.below _ l.p l.invariant.0 (omega arith) (sym c.same_node.ensures ∙ c.if-same_node.true)))
-
-pub overflow_add-p-in-loop-p : goal.overflow_add-p-in-loop-p
-overflow_add-p-in-loop-p c = omega (arith, scan_fits c.requires.below _ c.loop-p.p c.loop-p.invariant.0 (omega arith), c.requires.below.fits)
-
-pub overflow_add-p-in-loop-p-2 : goal.overflow_add-p-in-loop-p-2
-overflow_add-p-in-loop-p-2 c = omega (arith, scan_fits c.requires.below _ c.loop-p.p c.loop-p.invariant.0 (omega arith), c.requires.below.fits)
+    let e = ap₂ same (sym c.read-other.ensures) (sym c.read-node.ensures) ∙ sym (eq_same c.read-other.result c.read-node.result) ∙ sym c.if-eq.ensures in
+    sym (find_absent (used a.cells.now a.q) (node_here a.cells.now a.q) l.p (scan_hit c.requires.below _ l.p l.invariant.0 c.loop-p-test.true e))
 
 pub loop-p-preserved : goal.loop-p-preserved
 loop-p-preserved c =
     let l = c.loop-p in
-    let f = scan_fits c.requires.below _ l.p l.invariant.0 (omega arith) in
-    (scan_miss c.requires.below _ l.p l.invariant.0 (omega arith) (sym c.same_node.ensures ∙ c.if-same_node.false), omega arith)
+    let f = scan_fits c.requires.below _ l.p l.invariant.0 c.loop-p-test.true in
+    let long = ap (λ (n : Node). length n.mem) c.read-other.ensures ∙ here-count c.args.cells.now l.p (omega (arith, f, c.requires.below.fits)) in
+    let e = ap₂ same (sym c.read-other.ensures) (sym c.read-node.ensures) ∙ sym (eq_same c.read-other.result c.read-node.result) ∙ sym c.if-eq.ensures in
+    rw long (scan_miss c.requires.below _ l.p l.invariant.0 c.loop-p-test.true e, f)
 
 pub returns : goal.returns
 returns c =
-    let l = c.loop-p in
-    sym (none_absent (used c.args.cells.now c.args.q) (node_here c.args.cells.now c.args.q) (scan_end c.requires.below _ l.p l.invariant.0 (omega arith)))
+    let a = c.args in
+    sym (none_absent (used a.cells.now a.q) (node_here a.cells.now a.q) (scan_end c.requires.below _ c.loop-p.p c.loop-p.invariant.0 c.loop-p-test.false))

@@ -1,0 +1,2 @@
+-- The law of a node's numbers.
+pub mod Numbers

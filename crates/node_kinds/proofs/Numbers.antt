@@ -1,0 +1,26 @@
+-- `==` of two nodes' numbers is the definitions' test.
+use Rattle.std.proofs.Common.{◌≡◌, Bool, true, false, ◌&&◌, [], ◌∷◌, eqb, refl, ap, ◌∙◌}
+use Rattle.std.specs.Cmp.Lexicographic.{pointwise}
+use Rattle.arena.specs.Lists.{every}
+use Rattle.arena.specs.Nodes.{same}
+use Rattle.runs.proofs.Same.{pointwise_same}
+use Rattle.node_kinds.specs.declared.Node.{Node}
+use Rattle.node_kinds.specs.Numbers.{node_of}
+
+turned : (p t k m : Bool) → (p && (t && (k && m))) ≡ every (k ∷ t ∷ p ∷ m ∷ [])
+unfolding every
+turned true true true true = refl
+turned true true true false = refl
+turned true true false m = refl
+turned true false true m = refl
+turned true false false m = refl
+turned false true true m = refl
+turned false true false m = refl
+turned false false true m = refl
+turned false false false m = refl
+
+pub eq_same : (m n : Node) → (eqb m.par n.par && (eqb m.ty n.ty && (eqb m.kind n.kind && pointwise eqb m.members.now n.members.now))) ≡ same (node_of m) (node_of n)
+unfolding same
+eq_same m n =
+    turned (eqb m.par n.par) (eqb m.ty n.ty) (eqb m.kind n.kind) (pointwise eqb m.members.now n.members.now)
+    ∙ ap (λ (b : Bool). every (eqb m.kind n.kind ∷ eqb m.ty n.ty ∷ eqb m.par n.par ∷ b ∷ [])) (pointwise_same m.members.now n.members.now)
