@@ -8,20 +8,20 @@ use Rattle.answers.specs.Lines.{decimal, field, ok, refused, space, newline, ok_
 use Rattle.answers.proofs.Turns.{length-decimal, decimal-most}
 use Rattle.codec.proofs.Putting.{puts_puts}
 
-pub field-most : (bytes : List ℕ) (n : ℕ) → n < 2 ^ 64 → length (field bytes n) ≤ length bytes + 20
+pub field_most : (bytes : List ℕ) (n : ℕ) → n < 2 ^ 64 → length (field bytes n) ≤ length bytes + 20
 unfolding field
-field-most bytes n h = omega (arith, length-append bytes (decimal n), length-decimal n, decimal-most n h)
+field_most bytes n h = omega (arith, length-append bytes (decimal n), length-decimal n, decimal-most n h)
 
 -- the longest lines
 pub refused-most : (n : ℕ) → n < 2 ^ 64 → length (refused_line n) ≤ 29
 unfolding refused_line
-refused-most n h = omega (arith, length-append (field refused n) newline, field-most refused n h)
+refused-most n h = omega (arith, length-append (field refused n) newline, field_most refused n h)
 
 pub ok-most : (n m : ℕ) → n < 2 ^ 64 → m < 2 ^ 64 → length (ok_line n m) ≤ 45
 unfolding ok_line
 ok-most n m hn hm =
-    let f = field-most ok n hn in
-    let g = field-most space m hm in
+    let f = field_most ok n hn in
+    let g = field_most space m hm in
     let e = length-append (field ok n) (field space m) in
     omega (arith, length-append (field ok n ++ field space m) newline)
 
@@ -41,7 +41,7 @@ module _ {out : List ℕ} {at end : ℕ} {after : List ℕ} where
       → Puts out at (field ok n) a one → Puts one a (field space m) b two → Puts two b newline end after → Puts out at (ok_line n m) end after
   unfolding ok_line
   puts_ok n m hn hm r p q s =
-      let f = field-most ok n hn in
-      let g = field-most space m hm in
+      let f = field_most ok n hn in
+      let g = field_most space m hm in
       let e = length-append (field ok n) (field space m) in
       puts_puts (omega (arith, length-append (field ok n ++ field space m) newline)) (puts_puts (omega arith) p q) s

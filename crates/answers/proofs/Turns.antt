@@ -1,17 +1,17 @@
--- The writers' loops: what is still to be stored over what is there gives the whole. Assumes nothing.
-use mathlib.Core.Path.{◌≡◌, refl, sym, ap, ◌∙◌}
+-- Storing decimal digits: what is still to be stored over what is there gives the whole. Assumes nothing.
+use mathlib.Core.Path.{◌≡◌, refl, sym, ap, ap₂, ◌∙◌}
+use mathlib.Core.Logic.{⊎_elim}
 use mathlib.Core.List.{List, [], ◌∷◌, ◌++◌}
-use Prim.Native.Nat.{ℕ, suc, ◌+◌, ◌/◌, ◌%◌, ◌^◌, ◌≤◌, ◌<◌}
-use native.Mathlib.Numerals.{add-one}
+use Prim.Native.Nat.{ℕ, ◌+◌, ◌-◌, ◌/◌, ◌%◌, ◌^◌, ◌≤◌, ◌<◌}
 use native.Mathlib.Omega.{arith}
-use lib.ListN.{length, get_or, drop, set, length-append}
-use lib.Seq.{sets, drop-cons, drop-length}
+use lib.ListN.{length, set, length-append}
+use lib.Seq.{sets}
 use Rattle.codec.specs.Digits.{digits}
-use Rattle.codec.proofs.Digits.{digits-small, digits_more, digits-most}
+use Rattle.std.proofs.lemmas.Bool.{cases_lt}
+use Rattle.codec.proofs.Digits.{digits-small, digits_more, digits_some, digits-most}
 use Rattle.codec.proofs.Putting.{sets_last}
 use Rattle.answers.specs.Lines.{text, decimal}
 
--- storing decimal digits, the last one first
 length-text : (ds : List ℕ) → length (text ds) ≡ length ds
 unfolding text
 length-text [] = refl
@@ -32,30 +32,34 @@ decimal_more : (n : ℕ) → 10 ≤ n → decimal n ≡ decimal (n / 10) ++ ((48
 unfolding decimal text
 decimal_more n h = rw (digits_more 10 n (omega arith) h)
 
-module _ (out whole : List ℕ) (at last rest : ℕ) (place : last + 1 ≡ at + length (digits 10 rest)) (left : sets out at (decimal rest) ≡ whole) where
-  pub digit_more : 10 ≤ rest → (last ≡ at + length (digits 10 (rest / 10))) × (sets (set out last (48 + rest % 10)) at (decimal (rest / 10)) ≡ whole)
-  digit_more h =
-      let e = ap length (digits_more 10 rest (omega arith) h) in
-      let k : last ≡ at + length (decimal (rest / 10)) = omega (arith, length-decimal (rest / 10)) in (
-        omega arith,
-        ap (λ (x : ℕ). sets (set out x (48 + rest % 10)) at (decimal (rest / 10))) k
-            ∙ sym (sets_last out at (decimal (rest / 10)) (48 + rest % 10))
-            ∙ sym (ap (sets out at) (decimal_more rest h))
-            ∙ left,
-      )
+-- what is left before a place: every digit is there, or those of a rest end at it, and stored give the whole
+pub data Left (at place rest : ℕ) (out whole : List ℕ) : Type 0 where
+  stored : place ≡ at → out ≡ whole → Left at place rest out whole
+  to_store : place ≡ at + length (digits 10 rest) → sets out at (decimal rest) ≡ whole → Left at place rest out whole
 
-  pub digit_end : rest < 10 → set out last (48 + rest) ≡ whole
-  digit_end h =
-      let e = ap length (digits-small 10 rest h) in
-      let k : last ≡ at = omega arith in
-      ap (λ (x : ℕ). set out x (48 + rest)) k ∙ sym (ap (sets out at) (decimal-small rest h)) ∙ left
+-- a turn, at the place before
+module _ (at place rest : ℕ) (out whole : List ℕ) where
+  digit_more : place ≡ at + length (digits 10 rest) → sets out at (decimal rest) ≡ whole → 10 ≤ rest → Left at (place - 1) (rest / 10) (set out (place - 1) (48 + rest % 10)) whole
+  digit_more e l h =
+      let d = ap length (digits_more 10 rest (omega arith) h) in
+      let k : place - 1 ≡ at + length (decimal (rest / 10)) = omega (arith, length-decimal (rest / 10)) in
+      to_store (omega arith)
+      (ap (λ (x : ℕ). sets (set out x (48 + rest % 10)) at (decimal (rest / 10))) k
+      ∙ sym (sets_last out at (decimal (rest / 10)) (48 + rest % 10))
+      ∙ sym (ap (sets out at) (decimal_more rest h))
+      ∙ l)
 
--- storing bytes
-module _ (out whole bytes : List ℕ) (at i : ℕ) (left : sets out (at + i) (drop i bytes) ≡ whole) where
-  pub byte_more : i < length bytes → sets (set out (at + i) (get_or bytes i 0)) (at + (i + 1)) (drop (i + 1) bytes) ≡ whole
-  byte_more h =
-      let e : at + (i + 1) ≡ suc (at + i) = omega arith in
-      rw (e, add-one i) (sym (ap (sets out (at + i)) (drop-cons bytes i 0 h)) ∙ left)
+  digit_last : place ≡ at + length (digits 10 rest) → sets out at (decimal rest) ≡ whole → rest < 10 → Left at (place - 1) (rest / 10) (set out (place - 1) (48 + rest % 10)) whole
+  digit_last e l h =
+      let d = ap length (digits-small 10 rest h) in
+      let k : place - 1 ≡ at = omega arith in
+      let r : rest % 10 ≡ rest = omega arith in
+      stored k (ap₂ (λ (x y : ℕ). set out x (48 + y)) k r ∙ sym (ap (sets out at) (decimal-small rest h)) ∙ l)
 
-  pub byte_end : i ≡ length bytes → out ≡ whole
-  byte_end e = sym (ap (sets out (at + i)) (ap (λ (k : ℕ). drop k bytes) e ∙ drop-length bytes)) ∙ left
+  pub left_more : at < place → Left at place rest out whole → Left at (place - 1) (rest / 10) (set out (place - 1) (48 + rest % 10)) whole
+  left_more h (stored e l) = absurd (omega arith)
+  left_more h (to_store e l) = ⊎_elim (digit_last e l) (digit_more e l) (cases_lt rest 10)
+
+  pub left-none : place ≤ at → Left at place rest out whole → out ≡ whole
+  left-none h (stored e l) = l
+  left-none h (to_store e l) = absurd (omega (arith, digits_some 10 rest (omega arith)))

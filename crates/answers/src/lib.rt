@@ -10,17 +10,17 @@ ghost use Rattle.answers.specs.Replies.{line_of};
 
 use table::Answer;
 
+// The writers go from a place in a lent buffer to the next: `Puts` says what each leaves, and where. A struct that held both would
+// ask each function for one more clause, on the buffer that it stands for.
+
 // Bytes at a place.
 fn write_bytes(out: &mut [u8], at: usize, bytes: &[u8]) -> usize
     requires { at + length bytes.now ≤ length out.old }
     ensures { Puts out.old at bytes.now result out.new }
 {
-    let mut i: usize = 0;
-    while i < bytes.len() {
-        out[at + i] = bytes[i];
-        i += 1;
-    }
-    at + i
+    let end = at + bytes.len();
+    out[at..end].copy_from_slice(bytes);
+    end
 }
 
 // A number in decimal, at most 20 digits, from the last digit to the first.
@@ -29,14 +29,11 @@ pub fn write_decimal(out: &mut [u8], at: usize, n: u64) -> usize
     ensures { Puts out.old at (decimal n) result out.new }
 {
     let end = at + codec::digit_count(n, 10);
-    let mut last = end - 1;
     let mut rest = n;
-    while rest >= 10 {
-        out[last] = (48 + rest % 10) as u8;
-        last -= 1;
+    for place in (at..end).rev() {
+        out[place] = (48 + rest % 10) as u8;
         rest = rest / 10;
     }
-    out[last] = (48 + rest) as u8;
     end
 }
 
@@ -50,6 +47,7 @@ fn write_field(out: &mut [u8], at: usize, bytes: &[u8], n: u64) -> usize
 }
 
 // The line of an accepted instruction: its position and the mark.
+#[tactic(auto, using(crate::proofs::Answers::field_most))]
 pub fn write_ok(out: &mut [u8], at: usize, position: u64, mark: u64) -> usize
     requires { at + 45 ≤ length out.old }
     ensures { Puts out.old at (ok_line position mark) result out.new }
@@ -60,6 +58,7 @@ pub fn write_ok(out: &mut [u8], at: usize, position: u64, mark: u64) -> usize
 }
 
 // The line of a refused one.
+#[tactic(auto, using(crate::proofs::Answers::field_most))]
 pub fn write_refused(out: &mut [u8], at: usize, number: u64) -> usize
     requires { at + 29 ≤ length out.old }
     ensures { Puts out.old at (refused_line number) result out.new }
@@ -77,6 +76,15 @@ pub fn write_answer(out: &mut [u8], end: usize, answer: Answer) -> usize
         Answer::Accepted(position, mark) => write_ok(out, end, position, mark as u64),
         Answer::Refused(number) => write_refused(out, end, number),
     }
+}
+
+// The line of an answer, in the room that was lent.
+#[tactic(auto, using(codec::proofs::Putting::puts_inside, codec::proofs::Putting::puts_front))]
+pub fn answer_line(room: &mut [u8; 45], answer: Answer) -> &[u8]
+    ensures { result.now ≡ line_of (reply_of answer) }
+{
+    let end = write_answer(room, 0, answer);
+    &room[..end]
 }
 
 // The mark that an answer leaves.

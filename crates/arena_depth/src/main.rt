@@ -3,16 +3,19 @@
 
 #![tactic(auto)]
 
-ghost use Rattle.std.specs.Prelude.{◌+◌, ◌≤◌, ◌<◌};
+ghost use Rattle.std.specs.Prelude.{◌+◌, ◌≤◌, ◌<◌, length};
 
 use arena::cells::View;
 use std::io;
 use walks::{has_fields, is_literal, set_free};
 use wellformed::is_formed;
 
-fn put(cells: &mut [u64], at: usize, v: u64) {
-    if at < cells.len() {
-        cells[at] = v;
+// Cells at a place, where they have room.
+fn put(cells: &mut [u64], at: usize, node: &[u64])
+    requires { at + length node.now ≤ 65552 }
+{
+    if let Some(place) = cells.get_mut(at..at + node.len()) {
+        place.copy_from_slice(node);
     }
 }
 
@@ -21,22 +24,16 @@ fn node(cells: &mut [u64], at: usize, kind: u64, ty: u64, member: u64) -> usize
     requires { at ≤ 65544 }
     ensures { (at < result) × (result ≤ at + 8) }
 {
-    put(cells, at, kind);
-    put(cells, at + 1, ty);
     if has_fields(kind) {
-        put(cells, at + 3, 4);
-        put(cells, at + 4, 1);
-        put(cells, at + 5, member);
-        put(cells, at + 6, 2);
-        put(cells, at + 7, member);
+        put(cells, at, &[kind, ty, 0, 4, 1, member, 2, member]);
         return at + 8;
     }
-    put(cells, at + 3, 1);
-    put(cells, at + 4, member);
+    put(cells, at, &[kind, ty, 0, 1, member]);
     at + 5
 }
 
-// Types of this kind, each over the one before and the first over t, until `room` is full; answers the mark.
+// Types of this kind, each over the one before and the first over t, until `room` is full; answers the mark. A node says where the
+// next starts, so a range would name each node's size once more.
 fn types(cells: &mut [u64], room: usize, from: usize, kind: u64, t: u64) -> usize
     requires { (from ≤ room) × (room ≤ 65536) }
     ensures { (from ≤ result) × (result ≤ room) }
@@ -71,13 +68,8 @@ fn terms(cells: &mut [u64], room: usize, from: usize, kind: u64, t: u64, x: u64)
 
 // Bool, false, true, and one node more: what the tower stands on.
 fn base(cells: &mut [u64], kind: u64, par: u64, count: u64) {
-    put(cells, 0, 1);
-    put(cells, 4, 16);
-    put(cells, 8, 16);
-    put(cells, 10, 1);
-    put(cells, 12, kind);
-    put(cells, 14, par);
-    put(cells, 15, count);
+    let nodes = [1, 0, 0, 0, 16, 0, 0, 0, 16, 0, 1, 0, kind, 0, par, count];
+    put(cells, 0, &nodes);
 }
 
 // y or n: is the term at `at` a literal, does the type there contain a set. Else a mark of what is wrong.

@@ -17,25 +17,14 @@ const LONGEST: usize = 65536;
 // Lines of a script whose results can be named.
 const LINES: usize = 4096;
 
-// The position of a line that gave none.
-const NOWHERE: u64 = 18446744073709551615;
+// The position of a line that gave none: a number, since the call is asked with it as with any other.
+const NOWHERE: u64 = u64::MAX;
 
 // Where a script stands: the next byte, and the mark.
 #[derive(Clone, Copy)]
 struct Place {
     at: usize,
     mark: usize,
-}
-
-// A part of s, and s where there is no such part.
-fn part(s: &[u8], from: usize, to: usize) -> &[u8] {
-    if from > to {
-        return s;
-    }
-    if to > s.len() {
-        return s;
-    }
-    &s[from..to]
 }
 
 // ---- operands
@@ -46,54 +35,37 @@ fn operand(results: &[u64], x: u64) -> u64 {
         return x / 2;
     }
     let line = (x / 2) as usize;
-    if line < results.len() {
-        results[line]
-    } else {
-        NOWHERE
-    }
-}
-
-fn operands(results: &[u64], listed: [u64; 257]) -> [u64; 257]
-    ensures { length result ≡ 257 }
-{
-    let mut found = listed;
-    let mut i: usize = 0;
-    while i < 257 {
-        found[i] = operand(results, found[i]);
-        i += 1;
-    }
-    found
+    results.get(line).copied().unwrap_or(NOWHERE)
 }
 
 fn resolved(results: &[u64], instruction: Instruction) -> Instruction
     ensures { length result.operands ≡ 257 }
 {
     let listed = instruction.operands;
-    let found = operands(results, listed);
+    let operands = listed.map(|x| operand(results, x));
     Instruction {
         operation: instruction.operation,
         parameter: instruction.parameter,
         count: instruction.count,
-        operands: found,
+        operands,
     }
 }
 
 // ---- lines
 
 fn say_answer(rt: &impl Print, answer: Answer) -> io::Result<()> {
-    let mut line = [0u8; 45];
-    let end = answers::write_answer(&mut line, 0, answer);
-    rt.write_all(part(&line, 0, end))
+    rt.write_all(answers::answer_line(&mut [0u8; 45], answer))
 }
 
 // Writes the text where it gets full; answers where the next number goes.
 fn flushed(rt: &impl Print, text: &[u8], end: usize) -> io::Result<usize>
+    requires { end ≤ length text.now }
     ensures { IfOk result (λ next. next ≤ 4000) }
 {
     if end <= 4000 {
         return Ok(end);
     }
-    rt.write_all(part(text, 0, end))?;
+    rt.write_all(&text[..end])?;
     Ok(0)
 }
 
@@ -102,17 +74,12 @@ fn say_cells(rt: &impl Print, cells: &[u64], mark: usize) -> io::Result<()> {
     rt.write_all(b"cells")?;
     let mut text = [0u8; 4096];
     let mut end: usize = 0;
-    let mut i: usize = 0;
-    while i < cells.len() {
-        if i >= mark {
-            break;
-        }
+    for cell in cells.iter().take(mark) {
         let at = flushed(rt, &text, end)?;
         text[at] = b' ';
-        end = answers::write_decimal(&mut text, at + 1, cells[i]);
-        i += 1;
+        end = answers::write_decimal(&mut text, at + 1, *cell);
     }
-    rt.write_all(part(&text, 0, end))?;
+    rt.write_all(&text[..end])?;
     rt.write_all(b"\n")
 }
 
@@ -144,16 +111,14 @@ fn step(
     ensures ok { IfOk result (λ next. IsArena cells.new next.mark) }
     ensures err { OnErr result ((mark : ℕ) × IsArena cells.new mark) }
 {
-    let read = codec::read_instruction(bytes, place.at);
-    if !read.good {
+    let Some(read) = codec::read_instruction(bytes, place.at) else {
         say_answer(rt, Answer::Refused(10))?;
         return Ok(Place {
             at: bytes.len(),
             mark: place.mark,
         });
-    }
-    let instruction = read.instruction;
-    let answer = call::call_known(cells, place.mark, resolved(results, instruction));
+    };
+    let answer = call::call_known(cells, place.mark, resolved(results, read.instruction));
     say_answer(rt, answer)?;
     put(results, line, position(answer));
     Ok(Place {
@@ -193,22 +158,13 @@ fn run(rt: &impl Print, bytes: &[u8], cells: &mut [u64], results: &mut [u64]) ->
 
 // ---- the input
 
-fn wide(x: u8) -> usize
-    ensures { result ≤ 255 }
-{
-    x as usize
-}
-
-// How many bytes the next script has; one more than any has where there is none.
-fn next_size(stdin: &mut impl Read) -> io::Result<usize> {
+// How many bytes the next script has, where one is said.
+fn next_size(stdin: &mut impl Read) -> io::Result<Option<usize>> {
     let mut head = [0u8; 4];
     if reading::read_full(stdin, &mut head)? < 4 {
-        return Ok(LONGEST + 1);
+        return Ok(None);
     }
-    if head[3] > 0 {
-        return Ok(LONGEST + 1);
-    }
-    Ok(wide(head[0]) + 256 * wide(head[1]) + 65536 * wide(head[2]))
+    Ok(Some(u32::from_le_bytes(head) as usize))
 }
 
 // The next script, where there is one.
@@ -221,12 +177,14 @@ fn turn(
 ) -> io::Result<bool>
     requires { length cells.old ≡ 65536 }
 {
-    let size = next_size(stdin)?;
+    let Some(size) = next_size(stdin)? else {
+        return Ok(false);
+    };
     if size > input.len() {
         return Ok(false);
     }
     let count = reading::read_full(stdin, &mut input[..size])?;
-    run(rt, part(input, 0, count), cells, results)?;
+    run(rt, &input[..count], cells, results)?;
     Ok(true)
 }
 

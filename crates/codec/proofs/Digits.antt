@@ -9,7 +9,8 @@ use borrow.Author.Tests.{lt-ltb, le-ltb, ltb-false}
 use lib.Dec.{ltb}
 use lib.ListN.{length}
 use Rattle.codec.specs.Digits.{digits_in, digits}
-use Rattle.codec.proofs.Choices.{lt_or_le, cond_else}
+use Rattle.std.proofs.lemmas.Bool.{cases_lt}
+use Rattle.codec.proofs.Choices.{cond_else}
 
 -- a quotient is smaller, so one digit less does
 quotient : {b k n : ℕ} → 1 < b → b ≤ n → n < suc k → n / b < k
@@ -38,11 +39,11 @@ by_quotient b p P small more n = go (suc n) n (omega arith)
   where
     go : (k m : ℕ) → m < k → P m
     go zero m h = absurd (omega arith)
-    go (suc k) m h = ⊎_elim (small m) (λ l. more m l (go k (m / b) (quotient p l h))) (lt_or_le m b)
+    go (suc k) m h = ⊎_elim (small m) (λ l. more m l (go k (m / b) (quotient p l h))) (cases_lt m b)
 
 pub digits_some : (b n : ℕ) → 1 < b → 0 < length (digits b n)
 digits_some b n p =
-    ⊎_elim (λ h. rw (digits-small b n h) (omega arith)) (λ h. rw (digits_more b n p h) (omega arith)) (lt_or_le n b)
+    ⊎_elim (λ h. rw (digits-small b n h) (omega arith)) (λ h. rw (digits_more b n p h) (omega arith)) (cases_lt n b)
 
 -- a number below a power of the base has no more digits than the power
 pub digits-most : (b : ℕ) → 1 < b → (k n : ℕ) → n < b ^ suc k → length (digits b n) ≤ suc k
@@ -52,4 +53,4 @@ digits-most b p zero n l =
 digits-most b p (suc k) n l =
     ⊎_elim (λ h. rw (digits-small b n h) (omega arith))
     (λ h. rw (digits_more b n p h) (suc-le-suc (digits-most b p k (n / b) ((div-lt_iff_lt-mul (omega arith)).1 (subst (λ (x : ℕ). n < x) (pow-suc b (suc k)) l)))))
-    (lt_or_le n b)
+    (cases_lt n b)

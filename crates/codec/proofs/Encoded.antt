@@ -10,24 +10,25 @@ use lib.Dec.{ltb}
 use lib.ListN.{length, drop}
 use lib.Seq.{drop-drop, drop-append_seam, drop-append-add}
 use Rattle.codec.specs.declared.Number.{Number}
-use Rattle.codec.specs.declared.Number.TheVariants.{Read, Bad}
-use Rattle.codec.specs.Numbers.{groups, value, run, same, number_of, number_at, Begins}
+use Rattle.std.proofs.Common.{Option, Some, None}
+use Rattle.std.proofs.lemmas.Option.{same_Some}
+use Rattle.codec.specs.Numbers.{groups, value, run, same, read, number_of, number_at, Begins}
 use Rattle.codec.proofs.Groups.{value-groups, run-groups, same_eq, eq_same, run-front}
 
 -- both tests hold where a number comes out
-chosen : (t u : Bool) {v k n next : ℕ} → cond t (cond u (Read v k) Bad) Bad ≡ Read n next → (t ≡ true) × (u ≡ true) × (v ≡ n) × (k ≡ next)
-chosen true true e = (refl, refl, cc, cc)
+chosen : (t u : Bool) {v k n next : ℕ} → cond t (cond u (read v k) None) None ≡ read n next → (t ≡ true) × (u ≡ true) × (v ≡ n) × (k ≡ next)
+chosen true true e = let d = same_Some _ _ e in (refl, refl, ap (λ (m : Number). m.value) d, ap (λ (m : Number). m.next) d)
 chosen true false e = (refl, cc, cc, cc)
 chosen false u e = (cc, cc, cc, cc)
 
 module _ (bytes : List ℕ) (at : ℕ) where
-  begins_read : (n next : ℕ) → Begins bytes at n next → number_at bytes at ≡ Read n next
+  begins_read : (n next : ℕ) → Begins bytes at n next → number_at bytes at ≡ read n next
   unfolding number_at number_of
   begins_read n next b =
       let e : run (drop at bytes) ≡ groups n = ap run b.stands ∙ run-groups (drop next bytes) n in
       rw (e, value-groups n, eq_same (groups n), lt-ltb n (2 ^ 64) b.small, sym b.behind)
 
-  read_begins : (n next : ℕ) → number_at bytes at ≡ Read n next → Begins bytes at n next
+  read_begins : (n next : ℕ) → number_at bytes at ≡ read n next → Begins bytes at n next
   unfolding number_at number_of
   read_begins n next e =
       let r : List ℕ = run (drop at bytes) in
@@ -41,19 +42,19 @@ module _ (bytes : List ℕ) (at : ℕ) where
       }
 
   -- a number is read exactly where its encoding stands
-  pub number_read : (n next : ℕ) → (number_at bytes at ≡ Read n next) ↔ Begins bytes at n next
+  pub number_read : (n next : ℕ) → (number_at bytes at ≡ read n next) ↔ Begins bytes at n next
   number_read n next = (read_begins n next, begins_read n next)
 
   -- and a bad one exactly where none does
-  pub number-bad : (number_at bytes at ≡ Bad) ↔ ((n next : ℕ) → Begins bytes at n next → ⊥)
+  pub number-bad : (number_at bytes at ≡ None) ↔ ((n next : ℕ) → Begins bytes at n next → ⊥)
   number-bad = (
     (λ e n next b. let z : ◌≡◌ {A = ℕ} 0 1 = cc (begins_read n next b) in omega arith),
     λ h. none (number_at bytes at) refl h,
   )
     where
-      none : (r : Number) → number_at bytes at ≡ r → ((n next : ℕ) → Begins bytes at n next → ⊥) → number_at bytes at ≡ Bad
-      none (Read n next) e h = absurd (h n next (read_begins n next e))
-      none Bad e h = e
+      none : (r : Option Number) → number_at bytes at ≡ r → ((n next : ℕ) → Begins bytes at n next → ⊥) → number_at bytes at ≡ None
+      none (Some n) e h = absurd (h n.value n.next (read_begins n.value n.next e))
+      none None e h = e
 
 -- what stands behind a front
 pub behind-front : (front xs rest : List ℕ) → drop (length front) (front ++ (xs ++ rest)) ≡ xs ++ drop (length front + length xs) (front ++ (xs ++ rest))
@@ -62,7 +63,7 @@ behind-front front xs rest =
     ∙ ap (◌++◌ xs) (sym (drop-append-add front (xs ++ rest) (length xs) ∙ drop-append_seam xs rest))
 
 -- decoding an encoded number gives it back, and the place behind it
-pub number-back : (front rest : List ℕ) (n : ℕ) → n < 2 ^ 64 → number_at (front ++ (groups n ++ rest)) (length front) ≡ Read n (length front + length (groups n))
+pub number-back : (front rest : List ℕ) (n : ℕ) → n < 2 ^ 64 → number_at (front ++ (groups n ++ rest)) (length front) ≡ read n (length front + length (groups n))
 number-back front rest n h =
     begins_read (front ++ (groups n ++ rest)) (length front) n (length front + length (groups n))
     (record { small = h; stands = behind-front front (groups n) rest; behind = refl })

@@ -5,7 +5,7 @@ use mathlib.Core.List.{List, [], ◌∷◌, ◌++◌}
 use Prim.Native.Nat.{ℕ, ◌-◌, ◌^◌}
 use lib.Dec.{eqb}
 use Rattle.codec.specs.declared.Number.{Number}
-use Rattle.codec.specs.declared.Number.TheVariants.{Read, Bad}
+use Rattle.std.proofs.Common.{Option, Some, None}
 use Rattle.codec.specs.Digits.{digits_in, digits}
 use Rattle.codec.specs.Numbers.{marked, groups, value, run, same, number_of, number_at}
 use Rattle.codec.specs.Instructions.{Reading, whole, bad, onto, first, numbers_at, after, operands, instruction_at}
@@ -18,16 +18,16 @@ every (b ∷ bs) = b && every bs
 is : ℕ → List ℕ → ℕ → Bool
 is n bytes next = go (number_at bytes 0)
   where
-    go : Number → Bool
-    go (Read m k) = eqb m n && eqb k next
-    go Bad = false
+    go : Option Number → Bool
+    go (Some m) = eqb m.value n && eqb m.next next
+    go None = false
 
 is_bad : List ℕ → Bool
 is_bad bytes = go (number_at bytes 0)
   where
-    go : Number → Bool
-    go (Read m k) = false
-    go Bad = true
+    go : Option Number → Bool
+    go (Some m) = false
+    go None = true
 
 -- whether an instruction stands at a place, and whether none does
 reads : List ℕ → ℕ → ℕ → ℕ → List ℕ → ℕ → Bool

@@ -1,73 +1,68 @@
 -- Operands that are put into an array one by one. Assumes nothing.
 use mathlib.Core.Path.{◌≡◌, refl, sym, ap, ◌∙◌}
-use mathlib.Core.Bool.{true}
 use mathlib.Core.List.{List, ◌++◌}
 use Prim.Native.Nat.{ℕ, zero, suc, ◌+◌, ◌-◌, ◌≤◌}
-use native.Mathlib.Nat.{zero-add, sub-zero, zero-sub, suc-sub-suc}
+use native.Mathlib.Nat.{zero-add}
 use native.Mathlib.Numerals.{add-one}
 use native.Mathlib.Omega.{arith}
-use lib.ListN.{length, drop, set, replicate, length-replicate}
+use lib.ListN.{length, set, replicate, length-replicate}
 use lib.Seq.{sets, sets-eq}
 use Rattle.codec.specs.declared.Number.{Number}
-use Rattle.codec.specs.declared.Number.TheVariants.{Read, Bad}
+use Rattle.std.proofs.lemmas.List.{drop-replicate}
+use Rattle.std.proofs.Common.{Option, Some, None}
 use Rattle.codec.specs.declared.Operands.{Operands}
-use Rattle.codec.specs.Numbers.{number_at}
+use Rattle.codec.specs.Numbers.{read, number_at}
 use Rattle.codec.specs.Instructions.{Listing, listed, broken, onto, first, numbers_at, operands_of}
 
 -- the numbers still to come, put into the array behind those that it holds
-abbrev pub filled : ℕ → List ℕ → ℕ → Listing → Operands
-filled at values read (listed ns next) = record { good = true; next = next; values = sets values read ns }
-filled at values read broken = operands_of at broken
+abbrev pub filled : List ℕ → ℕ → Listing → Option Operands
+filled values i (listed ns next) = Some (record { next = next; values = sets values i ns })
+filled values i broken = None
 
 -- numbers_at lists as many numbers as were asked for
 data Counts (k : ℕ) : Listing → Type 0 where
   counted : {ns : List ℕ} {next : ℕ} → length ns ≡ k → Counts k (listed ns next)
   uncounted : Counts k broken
 
-first_counts : (k : ℕ) (n : Number) (rest : ℕ → Listing) → ((next : ℕ) → Counts k (rest next)) → Counts (suc k) (first n rest)
+first_counts : (k : ℕ) (n : Option Number) (rest : ℕ → Listing) → ((next : ℕ) → Counts k (rest next)) → Counts (suc k) (first n rest)
 unfolding first onto
-first_counts k (Read n next) rest h = go (rest next) (h next)
+first_counts k (Some n) rest h = go (rest n.next) (h n.next)
   where
-    go : (l : Listing) → Counts k l → Counts (suc k) (onto n l)
+    go : (l : Listing) → Counts k l → Counts (suc k) (onto n.value l)
     go (listed ns behind) (counted e) = counted (ap suc e)
     go broken uncounted = uncounted
-first_counts k Bad rest h = uncounted
+first_counts k None rest h = uncounted
 
 counts : (k : ℕ) (bytes : List ℕ) (at : ℕ) → Counts k (numbers_at k bytes at)
 unfolding numbers_at
 counts zero bytes at = counted refl
 counts (suc k) bytes at = first_counts k (number_at bytes at) (numbers_at k bytes) (counts k bytes)
 
-drop-zeros : (m k : ℕ) → drop {A = ℕ} m (replicate k 0) ≡ replicate (k - m) 0
-drop-zeros zero k = rw (sub-zero k)
-drop-zeros (suc m) zero = ap (λ (n : ℕ). replicate n 0) (sym (zero-sub (suc m)))
-drop-zeros (suc m) (suc k) = drop-zeros m k ∙ ap (λ (n : ℕ). replicate n 0) (sym (suc-sub-suc k m))
-
 -- at the start the array holds zeros
-pub filled-zeros : (at k : ℕ) (bytes : List ℕ) → k ≤ 257 → filled at (replicate 257 0) 0 (numbers_at k bytes at) ≡ operands_of at (numbers_at k bytes at)
+pub filled-zeros : (at k : ℕ) (bytes : List ℕ) → k ≤ 257 → filled (replicate 257 0) 0 (numbers_at k bytes at) ≡ operands_of (numbers_at k bytes at)
 filled-zeros at k bytes h = go (numbers_at k bytes at) (counts k bytes at)
   where
-    go : (l : Listing) → Counts k l → filled at (replicate 257 0) 0 l ≡ operands_of at l
+    go : (l : Listing) → Counts k l → filled (replicate 257 0) 0 l ≡ operands_of l
     go (listed ns next) (counted e) =
-        ap (λ (vs : List ℕ). record { good = true; next = next; values = vs })
+        ap (λ (vs : List ℕ). Some (record { next = next; values = vs }))
         (sets-eq ns (replicate 257 0) 0 (omega (arith, e, length-replicate {A = ℕ} 257 0))
-        ∙ ap (◌++◌ ns) (drop-zeros (0 + length ns) 257 ∙ ap (λ (n : ℕ). replicate (257 - n) 0) (zero-add (length ns))))
+        ∙ ap (◌++◌ ns) (drop-replicate (0 + length ns) 257 0 ∙ ap (λ (n : ℕ). replicate (257 - n) 0) (zero-add (length ns))))
     go broken uncounted = refl
 
 -- a turn, with k numbers to read
-module _ (at k next : ℕ) (bytes values : List ℕ) (read : ℕ) where
-  pub filled_more : (j n behind : ℕ) → k ≡ suc j → Read n behind ≡ number_at bytes next → filled at values read (numbers_at k bytes next) ≡ filled at (set values read n) (read + 1) (numbers_at j bytes behind)
+module _ (k next : ℕ) (bytes values : List ℕ) (i : ℕ) where
+  pub filled_more : (j n behind : ℕ) → k ≡ suc j → read n behind ≡ number_at bytes next → filled values i (numbers_at k bytes next) ≡ filled (set values i n) (i + 1) (numbers_at j bytes behind)
   unfolding numbers_at first onto
-  filled_more j n behind e h = rw (e, sym h, add-one read) (go (numbers_at j bytes behind))
+  filled_more j n behind e h = rw (e, sym h, add-one i) (go (numbers_at j bytes behind))
     where
-      go : (l : Listing) → filled at values read (onto n l) ≡ filled at (set values read n) (suc read) l
+      go : (l : Listing) → filled values i (onto n l) ≡ filled (set values i n) (suc i) l
       go (listed ns last) = refl
       go broken = refl
 
-  pub filled-bad : (j : ℕ) → k ≡ suc j → Bad ≡ number_at bytes next → filled at values read (numbers_at k bytes next) ≡ operands_of at broken
+  pub filled-bad : (j : ℕ) → k ≡ suc j → None ≡ number_at bytes next → filled values i (numbers_at k bytes next) ≡ None
   unfolding numbers_at first
   filled-bad j e h = rw (e, sym h)
 
-  pub filled-all : k ≡ 0 → filled at values read (numbers_at k bytes next) ≡ record { good = true; next = next; values = values }
+  pub filled-all : k ≡ 0 → filled values i (numbers_at k bytes next) ≡ Some (record { next = next; values = values })
   unfolding numbers_at
   filled-all e = rw e

@@ -9,7 +9,7 @@ use lib.Dec.{eqb, ltb}
 use lib.ListN.{length, drop}
 use Rattle.codec.specs.Digits.{digits}
 use Rattle.codec.specs.Numbers.{marked, groups, value, run, same}
-use Rattle.codec.proofs.Choices.{and_true}
+use Rattle.std.proofs.lemmas.Bool.{and_parts}
 use Rattle.codec.proofs.Digits.{digits-small, digits_more, digits_some, digits-most, by_quotient}
 
 marked_more : (g : ℕ) (gs : List ℕ) → 0 < length gs → marked (g ∷ gs) ≡ (128 + g) ∷ marked gs
@@ -58,7 +58,7 @@ same_eq [] [] e = refl
 same_eq [] (y ∷ ys) e = cc
 same_eq (x ∷ xs) [] e = cc
 same_eq (x ∷ xs) (y ∷ ys) e =
-    let both = and_true (eqb x y) (same xs ys) e in
+    let both = and_parts (eqb x y) (same xs ys) e in
     ap₂ ◌∷◌ (eqb-true x y both.0) (same_eq xs ys both.1)
 
 pub eq_same : (xs : List ℕ) → same xs xs ≡ true

@@ -4,7 +4,6 @@ pub mod Digits
 pub mod Groups
 pub mod Steps
 pub mod Filling
-pub mod Stages
 pub mod Encoded
 pub mod Listed
 pub mod Handed

@@ -12,8 +12,8 @@ use lib.ListN.{length, get_or, drop, length-append}
 use lib.Seq.{drop-drop, drop-append_seam}
 use Rattle.instruction.specs.Instruction.{Instr}
 use Rattle.codec.specs.declared.Number.{Number}
-use Rattle.codec.specs.declared.Number.TheVariants.{Read, Bad}
-use Rattle.codec.specs.Numbers.{groups, number_at, Begins}
+use Rattle.std.proofs.Common.{Option, Some, None}
+use Rattle.codec.specs.Numbers.{groups, read, number_at, Begins}
 use Rattle.codec.specs.Instructions.{Listing, listed, broken, onto, first, numbers_at, Reading, whole, bad, after, operands, instruction_at, all_groups, numbers, BeginAll, Encodes}
 use Rattle.codec.proofs.Encoded.{number_read, behind-front}
 
@@ -23,10 +23,10 @@ unfolding onto
 onto-listed n (listed ms k) e = (ms, cc, cc)
 onto-listed n broken e = ([], cc, cc)
 
-first-listed : (m : Number) (rest : ℕ → Listing) {ns : List ℕ} {next : ℕ} → first m rest ≡ listed ns next → (n : ℕ) × (mid : ℕ) × (tail : List ℕ) × (m ≡ Read n mid) × (rest mid ≡ listed tail next) × (n ∷ tail ≡ ns)
+first-listed : (m : Option Number) (rest : ℕ → Listing) {ns : List ℕ} {next : ℕ} → first m rest ≡ listed ns next → (n : ℕ) × (mid : ℕ) × (tail : List ℕ) × (m ≡ read n mid) × (rest mid ≡ listed tail next) × (n ∷ tail ≡ ns)
 unfolding first
-first-listed (Read n mid) rest e = let o = onto-listed n (rest mid) e in (n, mid, o.0, refl, o.1, o.2)
-first-listed Bad rest e = (0, 0, [], cc, cc, cc)
+first-listed (Some m) rest e = let o = onto-listed m.value (rest m.next) e in (m.value, m.next, o.0, refl, o.1, o.2)
+first-listed None rest e = (0, 0, [], cc, cc, cc)
 
 module _ (bytes : List ℕ) where
   begin_none : (at : ℕ) → BeginAll bytes at [] at
@@ -82,10 +82,10 @@ module _ (bytes : List ℕ) where
   pub numbers-listed : (k at : ℕ) (ns : List ℕ) (next : ℕ) → (numbers_at k bytes at ≡ listed ns next) ↔ ((length ns ≡ k) × BeginAll bytes at ns next)
   numbers-listed k at ns next = (listed-begin k at ns next, λ b. begin-listed k at ns next b.0 b.1)
 
-after-whole : (m : Number) (rest : ℕ → ℕ → Reading) {i : Instr} {next : ℕ} → after m rest ≡ whole i next → (n : ℕ) × (mid : ℕ) × (m ≡ Read n mid) × (rest n mid ≡ whole i next)
+after-whole : (m : Option Number) (rest : ℕ → ℕ → Reading) {i : Instr} {next : ℕ} → after m rest ≡ whole i next → (n : ℕ) × (mid : ℕ) × (m ≡ read n mid) × (rest n mid ≡ whole i next)
 unfolding after
-after-whole (Read n mid) rest e = (n, mid, refl, e)
-after-whole Bad rest e = (0, 0, cc, cc)
+after-whole (Some m) rest e = (m.value, m.next, refl, e)
+after-whole None rest e = (0, 0, cc, cc)
 
 operands-whole : (op par count : ℕ) (l : Listing) {i : Instr} {next : ℕ} → operands op par count l ≡ whole i next → (ns : List ℕ) × (l ≡ listed ns next) × (record { op = op; par = par; count = count; operands = ns } ≡ i)
 unfolding operands
@@ -98,7 +98,7 @@ within false e = (cc, cc)
 
 module _ (bytes : List ℕ) (at : ℕ) where
   -- the four stages, last to first
-  from_operands : (i : Instr) (next op a par b count c : ℕ) → number_at bytes at ≡ Read op a → number_at bytes a ≡ Read par b → number_at bytes b ≡ Read count c
+  from_operands : (i : Instr) (next op a par b count c : ℕ) → number_at bytes at ≡ read op a → number_at bytes a ≡ read par b → number_at bytes b ≡ read count c
       → count ≤ 257 → operands op par count (numbers_at count bytes c) ≡ whole i next → Encodes bytes at i next
   from_operands i next op a par b count c x y z m e =
       let o = operands-whole op par count (numbers_at count bytes c) e in
@@ -112,7 +112,7 @@ module _ (bytes : List ℕ) (at : ℕ) where
         most = m;
       })
 
-  from_count : (i : Instr) (next op a par b : ℕ) → number_at bytes at ≡ Read op a → number_at bytes a ≡ Read par b
+  from_count : (i : Instr) (next op a par b : ℕ) → number_at bytes at ≡ read op a → number_at bytes a ≡ read par b
       → after (number_at bytes b) (λ count c. cond (leb count 257) (operands op par count (numbers_at count bytes c)) bad) ≡ whole i next → Encodes bytes at i next
   from_count i next op a par b x y e =
       let z = after-whole (number_at bytes b) (λ count c. cond (leb count 257) (operands op par count (numbers_at count bytes c)) bad) e in

@@ -1,15 +1,12 @@
 -- Bytes put over others, one by one and one run behind another. Assumes nothing.
 use mathlib.Core.Path.{◌≡◌, sym, ap, ap₂, ◌∙◌}
 use mathlib.Core.List.{List, [], ◌∷◌, ◌++◌}
-use Prim.Native.Nat.{ℕ, suc, ◌+◌, ◌≤◌, ◌<◌}
+use Prim.Native.Nat.{ℕ, suc, ◌+◌, ◌≤◌}
 use native.Mathlib.Nat.{add-zero}
 use native.Mathlib.Omega.{arith}
-use lib.ListN.{length, set, length-append}
-use lib.Seq.{sets, sets-eq, length-sets, set_comm}
-use borrow.Author.Tests.{le-leb, lt-leb}
-use Rattle.codec.specs.declared.Written.TheVariants.{Behind, NoRoom}
-use Rattle.codec.specs.Numbers.{groups}
-use Rattle.codec.specs.Writing.{put, Puts, fits, written_of, with_number}
+use lib.ListN.{length, take, drop, set, length-append}
+use lib.Seq.{sets, sets-eq, length-sets, set_comm, length-take-le, take_at}
+use Rattle.codec.specs.Writing.{put, Puts}
 
 pub put_sets : (bytes out : List ℕ) (at : ℕ) → at + length bytes ≤ length out → put out at bytes ≡ sets out at bytes
 unfolding put
@@ -49,16 +46,23 @@ puts_puts {out} {at} {xs} {mid} {between} {ys} {end} {after} h p q =
           ∙ sym (put_sets (xs ++ ys) out at h);
     }
 
+-- the place behind what was put lies within the bytes; from the first place on, what was put stands in front of it
+pub puts_inside : {out : List ℕ} {at : ℕ} {bytes : List ℕ} {end : ℕ} {after : List ℕ} → at ≤ length out → Puts out at bytes end after → end ≤ length after
+unfolding put
+puts_inside {out} {at} {bytes} h p =
+    let e = ap length p.bytewise in
+    let front = length-take-le at out h in
+    omega (arith, p.behind, length-append (take at out ++ bytes) (drop (at + length bytes) out), length-append (take at out) bytes)
+
+pub puts_taken : {out : List ℕ} {at : ℕ} {bytes : List ℕ} {end : ℕ} {after : List ℕ} → at ≤ length out → Puts out at bytes end after → end ≡ length (take end after)
+puts_taken h p = sym (length-take-le _ _ (puts_inside h p))
+
+pub puts_front : {out bytes : List ℕ} {end : ℕ} {after : List ℕ} → Puts out 0 bytes end after → take end after ≡ bytes
+unfolding put
+puts_front {out} {bytes} {end} p =
+    let e : length bytes ≡ end = omega (arith, p.behind) in
+    rw p.bytewise (take_at bytes (drop (0 + length bytes) out) end e)
+
 -- a loop that has stored every byte
 pub sets_puts : {out : List ℕ} {at : ℕ} {bytes : List ℕ} {end : ℕ} {after : List ℕ} → at + length bytes ≤ length out → end ≡ at + length bytes → after ≡ sets out at bytes → Puts out at bytes end after
 sets_puts {out} {at} {bytes} h e s = record { behind = e; bytewise = s ∙ sym (put_sets bytes out at h) }
-
--- a number without room, and one with it
-pub no_room : (out : List ℕ) (at n : ℕ) → length out < at + length (groups n) → (NoRoom ≡ written_of out at n) × (out ≡ with_number out at n)
-unfolding written_of with_number fits
-no_room out at n h = (rw (lt-leb (at + length (groups n)) (length out) h), rw (lt-leb (at + length (groups n)) (length out) h))
-
-pub has_room : (out : List ℕ) (at n : ℕ) {end : ℕ} {after : List ℕ} → at + length (groups n) ≤ length out → Puts out at (groups n) end after → (Behind end ≡ written_of out at n) × (after ≡ with_number out at n)
-unfolding written_of with_number fits
-has_room out at n h p =
-    (rw (le-leb (at + length (groups n)) (length out) h) (ap Behind p.behind), rw (le-leb (at + length (groups n)) (length out) h) p.bytewise)

@@ -15,18 +15,20 @@ use lib.Dec.{eqb, ltb}
 use lib.ListN.{length, get_or, drop, drop_of_length-le}
 use lib.Seq.{get_or-drop, drop-cons}
 use Rattle.codec.specs.declared.Number.{Number}
-use Rattle.codec.specs.declared.Number.TheVariants.{Read, Bad}
-use Rattle.codec.specs.Numbers.{groups, value, run, same, number_of, number_at}
-use Rattle.codec.proofs.Choices.{lt_or_le, cond_same, and_false, and_true_r}
+use Rattle.std.proofs.Common.{Option, None}
+use Rattle.codec.specs.Numbers.{groups, value, run, same, read, number_of, number_at}
+use Rattle.std.proofs.lemmas.Bool.{cases_lt}
+use Rattle.std.proofs.Math.Bool.{and-false, and-true}
+use Rattle.codec.proofs.Choices.{cond_same}
 use Rattle.codec.proofs.Groups.{groups-small, groups_more, eq_same}
 
 -- the groups still to come, where v and s are the value and the bits of those before them, and `next` the place
-unfoldable pub steps : ℕ → ℕ → ℕ → List ℕ → Number
-steps v s next [] = Bad
+unfoldable pub steps : ℕ → ℕ → ℕ → List ℕ → Option Number
+steps v s next [] = None
 steps v s next (g ∷ gs) =
-    cond (eqb s 63 && ltb 1 g) Bad
+    cond (eqb s 63 && ltb 1 g) None
     (cond (ltb g 128)
-    (cond (eqb g 0 && ltb 0 s) Bad (Read (v + g % 128 * 2 ^ s) (next + 1)))
+    (cond (eqb g 0 && ltb 0 s) None (read (v + g % 128 * 2 ^ s) (next + 1)))
     (steps (v + g % 128 * 2 ^ s) (s + 7) (next + 1) gs))
 
 -- where a turn begins: fewer than ten groups have been read, and they are below 2 ^ s
@@ -45,12 +47,12 @@ begun_more v s g l h =
     }
 
 -- what is made of the whole run at the end, with w its value
-ends : ℕ → ℕ → ℕ → ℕ → List ℕ → Number
+ends : ℕ → ℕ → ℕ → ℕ → List ℕ → Option Number
 ends v s next w gs =
     cond (same gs (groups w))
-    (cond (eqb w 0 && ltb 0 s) Bad
-    (cond (ltb (v + w * 2 ^ s) (2 ^ 64)) (Read (v + w * 2 ^ s) (next + length gs)) Bad))
-    Bad
+    (cond (eqb w 0 && ltb 0 s) None
+    (cond (ltb (v + w * 2 ^ s) (2 ^ 64)) (read (v + w * 2 ^ s) (next + length gs)) None))
+    None
 
 -- the tenth group has one bit left
 tenth_below : (v g : ℕ) → v < 2 ^ 63 → ltb (v + g * 2 ^ 63) (2 ^ 64) ≡ not (ltb 1 g)
@@ -58,7 +60,7 @@ tenth_below v g h =
     ⊎_elim
     (λ m. rw (lt-ltb 1 g m) (le-ltb (v + g * 2 ^ 63) (2 ^ 64) (omega (arith, m))))
     (λ m. rw (le-ltb 1 g m) (lt-ltb (v + g * 2 ^ 63) (2 ^ 64) (omega (arith, m))))
-    (lt_or_le 1 g)
+    (cases_lt 1 g)
 
 -- a group that is the last passes 2 ^ 64 only as the tenth
 last_below : (v s g : ℕ) → g < 128 → Begun v s → ltb (v + g * 2 ^ s) (2 ^ 64) ≡ not (eqb s 63 && ltb 1 g)
@@ -72,39 +74,39 @@ last_below v s g l h =
     (λ k.
     let e : s ≡ 63 = omega (arith, h.most) in
     rw e (tenth_below v g (subst (λ (x : ℕ). v < 2 ^ x) e h.below)))
-    (lt_or_le s 63)
+    (cases_lt s 63)
 
-swap : (a b : Bool) {c : Bool} (r : Number) → c ≡ not a → cond a Bad (cond b Bad r) ≡ cond b Bad (cond c r Bad)
+swap : (a b : Bool) {c : Bool} (r : Option Number) → c ≡ not a → cond a None (cond b None r) ≡ cond b None (cond c r None)
 swap true true r e = refl
 swap true false r e = rw e
 swap false true r e = refl
 swap false false r e = rw e
 
-last_ends : (v s next g : ℕ) → g < 128 → Begun v s → cond (eqb s 63 && ltb 1 g) Bad (cond (eqb g 0 && ltb 0 s) Bad (Read (v + g % 128 * 2 ^ s) (next + 1))) ≡ ends v s next (g % 128 + 128 * 0) (g ∷ [])
+last_ends : (v s next g : ℕ) → g < 128 → Begun v s → cond (eqb s 63 && ltb 1 g) None (cond (eqb g 0 && ltb 0 s) None (read (v + g % 128 * 2 ^ s) (next + 1))) ≡ ends v s next (g % 128 + 128 * 0) (g ∷ [])
 unfolding ends
 last_ends v s next g l h =
     let e : g % 128 + 128 * 0 ≡ g = omega arith in
     let m : g % 128 ≡ g = omega arith in
     rw (e, m, groups-small g l, eq_same (g ∷ []))
-    (swap (eqb s 63 && ltb 1 g) (eqb g 0 && ltb 0 s) (Read (v + g * 2 ^ s) (next + 1)) (last_below v s g l h))
+    (swap (eqb s 63 && ltb 1 g) (eqb g 0 && ltb 0 s) (read (v + g * 2 ^ s) (next + 1)) (last_below v s g l h))
 
 -- a run whose value is 0 behind another group is a long form
-ends_zero : (v s next w : ℕ) (gs : List ℕ) → w ≡ 0 → 0 < s → ends v s next w gs ≡ Bad
+ends_zero : (v s next w : ℕ) (gs : List ℕ) → w ≡ 0 → 0 < s → ends v s next w gs ≡ None
 unfolding ends
-ends_zero v s next w gs e h = rw (e, lt-ltb 0 s h) (cond_same (same gs (groups 0)) Bad)
+ends_zero v s next w gs e h = rw (e, lt-ltb 0 s h) (cond_same (same gs (groups 0)) None)
 
 -- and is no encoding with that group
-ends_long : (v s next g w : ℕ) (gs : List ℕ) → w ≡ 0 → 128 ≤ g → ends v s next (g % 128 + 128 * w) (g ∷ gs) ≡ Bad
+ends_long : (v s next g w : ℕ) (gs : List ℕ) → w ≡ 0 → 128 ≤ g → ends v s next (g % 128 + 128 * w) (g ∷ gs) ≡ None
 unfolding ends same
 ends_long v s next g w gs e h =
     let z : g % 128 + 128 * w ≡ g % 128 = omega arith in
     rw (z, groups-small (g % 128) (omega arith), ne_eqb g (g % 128) (omega arith))
 
-ends_over : (v s next w : ℕ) (gs : List ℕ) → 2 ^ 64 ≤ v + w * 2 ^ s → ends v s next w gs ≡ Bad
+ends_over : (v s next w : ℕ) (gs : List ℕ) → 2 ^ 64 ≤ v + w * 2 ^ s → ends v s next w gs ≡ None
 unfolding ends
 ends_over v s next w gs h =
     rw (le-ltb (v + w * 2 ^ s) (2 ^ 64) h)
-    (ap (λ (x : Number). cond (same gs (groups w)) x Bad) (cond_same (eqb w 0 && ltb 0 s) Bad) ∙ cond_same (same gs (groups w)) Bad)
+    (ap (λ (x : Option Number). cond (same gs (groups w)) x None) (cond_same (eqb w 0 && ltb 0 s) None) ∙ cond_same (same gs (groups w)) None)
 
 -- the group in front of an encoding
 groups-front : (g w : ℕ) → 128 ≤ g → g < 256 → 0 < w → groups (g % 128 + 128 * w) ≡ g ∷ groups w
@@ -133,11 +135,11 @@ more_ends v s next g w gs l u =
     (eq-zero-or-pos w)
 
 -- an eleventh group
-eleventh : (v next g w : ℕ) (gs : List ℕ) → 128 ≤ g → ends v 63 next (g % 128 + 128 * w) (g ∷ gs) ≡ Bad
+eleventh : (v next g w : ℕ) (gs : List ℕ) → 128 ≤ g → ends v 63 next (g % 128 + 128 * w) (g ∷ gs) ≡ None
 eleventh v next g w gs l =
     ⊎_elim (λ e. ends_long v 63 next g w gs e l) (λ h. ends_over v 63 next (g % 128 + 128 * w) (g ∷ gs) (omega arith)) (eq-zero-or-pos w)
 
-none_ends : (v s next : ℕ) → ends v s next 0 [] ≡ Bad
+none_ends : (v s next : ℕ) → ends v s next 0 [] ≡ None
 unfolding ends same
 none_ends v s next = rw (groups-small 0 (omega arith))
 
@@ -156,15 +158,15 @@ steps_ends (g ∷ gs) v s next bytes h =
     (λ m.
     let e : s ≡ 63 = omega (arith, h.most) in
     rw (e, lt-ltb 1 g (omega arith), le-ltb g 128 l) (sym (eleventh v next g (value (run gs)) (run gs) l)))
-    (lt_or_le s 63))
-    (lt_or_le g 128)
+    (cases_lt s 63))
+    (cases_lt g 128)
 
 -- at the start there is nothing to add to
-ends_number : (at w : ℕ) (gs : List ℕ) → ends 0 0 at w gs ≡ cond (same gs (groups w)) (cond (ltb w (2 ^ 64)) (Read w (at + length gs)) Bad) Bad
+ends_number : (at w : ℕ) (gs : List ℕ) → ends 0 0 at w gs ≡ cond (same gs (groups w)) (cond (ltb w (2 ^ 64)) (read w (at + length gs)) None) None
 unfolding ends
 ends_number at w gs =
     let e : 0 + w * 2 ^ 0 ≡ w = omega arith in
-    rw (and_false (eqb w 0), e)
+    rw (and-false (eqb w 0), e)
 
 -- decoding by steps is decoding by the encoding
 pub by_steps : (bytes : List ℕ) (at : ℕ) → ((k : ℕ) → get_or bytes k 0 < 256) → steps 0 0 at (drop at bytes) ≡ number_at bytes at
@@ -188,19 +190,19 @@ joined v s g h e =
     small false k = refl
 
 -- a turn of the loop, at the group g
-module _ (v s next g : ℕ) (bytes : List ℕ) (inside : next < length bytes) (read : g ≡ get_or bytes next 0) where
+module _ (v s next g : ℕ) (bytes : List ℕ) (inside : next < length bytes) (seen : g ≡ get_or bytes next 0) where
   front : drop next bytes ≡ g ∷ drop (next + 1) bytes
-  front = drop-cons bytes next 0 inside ∙ ap₂ (λ (x k : ℕ). x ∷ drop k bytes) (sym read) (sym (add-one next))
+  front = drop-cons bytes next 0 inside ∙ ap₂ (λ (x k : ℕ). x ∷ drop k bytes) (sym seen) (sym (add-one next))
 
-  pub turn_passes : (eqb s 63 && ltb 1 g) ≡ true → steps v s next (drop next bytes) ≡ Bad
+  pub turn_passes : (eqb s 63 && ltb 1 g) ≡ true → steps v s next (drop next bytes) ≡ None
   unfolding steps
   turn_passes e = rw (front, e)
 
-  pub turn_spare : (eqb s 63 && ltb 1 g) ≡ false → g < 128 → (eqb g 0 && ltb 0 s) ≡ true → steps v s next (drop next bytes) ≡ Bad
+  pub turn_spare : (eqb s 63 && ltb 1 g) ≡ false → g < 128 → (eqb g 0 && ltb 0 s) ≡ true → steps v s next (drop next bytes) ≡ None
   unfolding steps
   turn_spare e l z = rw (front, e, lt-ltb g 128 l, z)
 
-  pub turn_last : (eqb s 63 && ltb 1 g) ≡ false → g < 128 → (eqb g 0 && ltb 0 s) ≡ false → steps v s next (drop next bytes) ≡ Read (v + g % 128 * 2 ^ s) (next + 1)
+  pub turn_last : (eqb s 63 && ltb 1 g) ≡ false → g < 128 → (eqb g 0 && ltb 0 s) ≡ false → steps v s next (drop next bytes) ≡ read (v + g % 128 * 2 ^ s) (next + 1)
   unfolding steps
   turn_last e l z = rw (front, e, lt-ltb g 128 l, z)
 
@@ -208,7 +210,7 @@ module _ (v s next g : ℕ) (bytes : List ℕ) (inside : next < length bytes) (r
   unfolding steps
   turn_more e l = rw (front, e, le-ltb g 128 l)
 
-pub turn_none : (v s next : ℕ) (bytes : List ℕ) → length bytes ≤ next → steps v s next (drop next bytes) ≡ Bad
+pub turn_none : (v s next : ℕ) (bytes : List ℕ) → length bytes ≤ next → steps v s next (drop next bytes) ≡ None
 unfolding steps
 turn_none v s next bytes h = rw (drop_of_length-le bytes h)
 
@@ -216,5 +218,5 @@ turn_none v s next bytes h = rw (drop_of_length-le bytes h)
 pub below_tenth : (s g : ℕ) → s ≤ 63 → 128 ≤ g → (eqb s 63 && ltb 1 g) ≡ false → s < 63
 below_tenth s g h l e =
     ⊎_elim (λ k. k)
-    (λ k. absurd (eqb-false s 63 (rw (lt-ltb 1 g (omega arith), and_true_r (eqb s 63)) at e) (omega arith)))
-    (lt_or_le s 63)
+    (λ k. absurd (eqb-false s 63 (rw (lt-ltb 1 g (omega arith), and-true (eqb s 63)) at e) (omega arith)))
+    (cases_lt s 63)

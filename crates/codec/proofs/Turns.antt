@@ -1,6 +1,7 @@
 -- The writers' loops: what is still to be stored over what is there gives the whole. Assumes nothing.
 use mathlib.Core.Path.{◌≡◌, sym, ap, ◌∙◌}
 use mathlib.Core.List.{List}
+use mathlib.Core.Logic.{⊎_elim}
 use Prim.Native.Nat.{ℕ, ◌+◌, ◌/◌, ◌%◌, ◌≤◌, ◌<◌}
 use native.Mathlib.Nat.{div-lt_self}
 use native.Mathlib.Numerals.{add-one}
@@ -9,8 +10,9 @@ use lib.ListN.{length, set}
 use lib.Seq.{sets}
 use Rattle.codec.specs.Digits.{digits}
 use Rattle.codec.specs.Numbers.{groups}
+use Rattle.std.proofs.lemmas.Bool.{cases_lt}
 use Rattle.codec.proofs.Digits.{digits-small, digits_more}
-use Rattle.codec.proofs.Groups.{groups-small, groups_more}
+use Rattle.codec.proofs.Groups.{groups-small, groups_more, groups_some}
 
 -- counting digits
 pub record Counting (b n rest count : ℕ) : Type 0 where
@@ -27,6 +29,16 @@ pub count_end : {b n rest count : ℕ} → rest < b → Counting b n rest count 
 count_end {b} {n} {rest} h c =
     let e = ap length (digits-small b rest h) in
     omega (arith, c.total)
+
+-- as many places are left as groups
+pub groups_left : (rest : ℕ) → 1 < length (groups rest) → 128 ≤ rest
+groups_left rest h = ⊎_elim (λ l. let e = ap length (groups-small rest l) in absurd (omega arith)) (λ l. l) (cases_lt rest 128)
+
+pub groups-last : (rest : ℕ) → length (groups rest) ≤ 1 → rest < 128
+groups-last rest h =
+    ⊎_elim (λ l. l)
+    (λ l. let e = ap length (groups_more rest l) in let g = groups_some (rest / 128) in absurd (omega arith))
+    (cases_lt rest 128)
 
 -- storing groups
 module _ (out whole : List ℕ) (next rest end : ℕ) (place : next + length (groups rest) ≡ end) (left : sets out next (groups rest) ≡ whole) where

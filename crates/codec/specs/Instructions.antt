@@ -1,9 +1,8 @@
 -- An instruction in bytes: operation, parameter, count, then that many operands, 257 at most, each a number.
-use Rattle.std.specs.Prelude.{ℕ, zero, suc, ◌+◌, ◌-◌, ◌^◌, ◌≤◌, ◌<◌, ◌≡◌, true, false, cond, List, [], ◌∷◌, ◌++◌, leb, length, get_or, drop, replicate}
-use Rattle.instruction.specs.Instruction.{Instr, held, without}
+use Rattle.std.specs.Prelude.{ℕ, zero, suc, ◌+◌, ◌-◌, ◌^◌, ◌≤◌, ◌<◌, ◌≡◌, cond, Option, Some, None, List, [], ◌∷◌, ◌++◌, leb, length, get_or, drop, replicate}
+use Rattle.instruction.specs.Instruction.{Instr, held}
 use Rattle.codec.specs.Numbers.{groups, number_at}
 use Rattle.codec.specs.declared.Number.{Number}
-use Rattle.codec.specs.declared.Number.TheVariants.{Read, Bad}
 use Rattle.codec.specs.declared.Operands.{Operands}
 use Rattle.codec.specs.declared.Decoded.{Decoded}
 
@@ -18,19 +17,19 @@ onto n (listed ns next) = listed (n ∷ ns) next
 onto n broken = broken
 
 -- a number, and the listing from the place behind it
-unfoldable pub first : Number → (ℕ → Listing) → Listing
-first (Read n next) rest = onto n (rest next)
-first Bad rest = broken
+unfoldable pub first : Option Number → (ℕ → Listing) → Listing
+first (Some n) rest = onto n.value (rest n.next)
+first None rest = broken
 
 -- k numbers from a place on
 unfoldable pub numbers_at : ℕ → List ℕ → ℕ → Listing
 numbers_at zero bytes at = listed [] at
 numbers_at (suc k) bytes at = first (number_at bytes at) (numbers_at k bytes)
 
--- a listing as the struct that the code returns: zeros fill the array up, and a broken one stays where it was
-abbrev pub operands_of : ℕ → Listing → Operands
-operands_of at (listed ns next) = record { good = true; next = next; values = ns ++ replicate (257 - length ns) 0 }
-operands_of at broken = record { good = false; next = at; values = replicate 257 0 }
+-- a listing as the struct that the code returns: zeros fill the array up
+abbrev pub operands_of : Listing → Option Operands
+operands_of (listed ns next) = Some (record { next = next; values = ns ++ replicate (257 - length ns) 0 })
+operands_of broken = None
 
 -- an instruction, and the place behind it, or a bad one
 pub data Reading : Type 0 where
@@ -38,9 +37,9 @@ pub data Reading : Type 0 where
   bad : Reading
 
 -- a number, and what the number and the place behind it give
-unfoldable pub after : Number → (ℕ → ℕ → Reading) → Reading
-after (Read n next) rest = rest n next
-after Bad rest = bad
+unfoldable pub after : Option Number → (ℕ → ℕ → Reading) → Reading
+after (Some n) rest = rest n.value n.next
+after None rest = bad
 
 -- the operands of an instruction
 unfoldable pub operands : ℕ → ℕ → ℕ → Listing → Reading
@@ -55,10 +54,10 @@ instruction_at bytes at =
     after (number_at bytes b) λ count c.
     cond (leb count 257) (operands op par count (numbers_at count bytes c)) bad
 
--- a reading as the struct that the code returns: a bad one stays where it was, and holds zeros
-abbrev pub decoded_of : ℕ → Reading → Decoded
-decoded_of at (whole i next) = record { good = true; next = next; instruction = held i }
-decoded_of at bad = record { good = false; next = at; instruction = held (without 0 0) }
+-- a reading as the struct that the code returns
+abbrev pub decoded_of : Reading → Option Decoded
+decoded_of (whole i next) = Some (record { next = next; instruction = held i })
+decoded_of bad = None
 
 -- the encoding of numbers, one behind the other
 unfoldable pub all_groups : List ℕ → List ℕ

@@ -1,8 +1,6 @@
 -- What a writer leaves in the bytes that it was lent.
-use Rattle.std.specs.Prelude.{ℕ, ◌+◌, ◌≡◌, Bool, cond, List, ◌++◌, leb, length, take, drop}
+use Rattle.std.specs.Prelude.{ℕ, ◌+◌, ◌≡◌, Bool, cond, Option, Some, None, List, ◌++◌, leb, length, take, drop}
 use Rattle.codec.specs.Numbers.{groups}
-use Rattle.codec.specs.declared.Written.{Written}
-use Rattle.codec.specs.declared.Written.TheVariants.{Behind, NoRoom}
 
 -- others in the place of the bytes from a place on; those before and behind stay
 unfoldable pub put : List ℕ → ℕ → List ℕ → List ℕ
@@ -18,8 +16,8 @@ unfoldable pub fits : List ℕ → ℕ → ℕ → Bool
 fits out at count = leb (at + count) (length out)
 
 -- a number: the place behind its groups, and the bytes afterwards; nothing changes where there is no room
-unfoldable pub written_of : List ℕ → ℕ → ℕ → Written
-written_of out at n = cond (fits out at (length (groups n))) (Behind (at + length (groups n))) NoRoom
+unfoldable pub written_of : List ℕ → ℕ → ℕ → Option ℕ
+written_of out at n = cond (fits out at (length (groups n))) (Some (at + length (groups n))) None
 
 unfoldable pub with_number : List ℕ → ℕ → ℕ → List ℕ
 with_number out at n = cond (fits out at (length (groups n))) (put out at (groups n)) out

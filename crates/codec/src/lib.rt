@@ -5,25 +5,20 @@
 ghost use Rattle.std.specs.Prelude.{◌≡◌, ◌&&◌, ◌+◌, ◌<◌, ◌≤◌, eqb, ltb, length};
 ghost use Rattle.codec.specs.Digits.{digits};
 ghost use Rattle.codec.specs.Numbers.{groups, number_at};
-ghost use Rattle.codec.specs.Instructions.{broken, numbers_at, operands_of, bad, instruction_at, decoded_of};
+ghost use Rattle.codec.specs.Instructions.{numbers_at, operands_of, instruction_at, decoded_of};
 ghost use Rattle.codec.specs.Writing.{Puts, written_of, with_number};
 
 use instruction::Instruction;
 
-// What stands at a place: a number and the place behind it, or none.
+// A number that was read, and the place behind it.
 #[derive(Clone, Copy)]
-pub enum Number {
-    Read(u64, usize),
-    Bad,
-}
-
-fn wide(x: u8) -> u64
-    ensures { result ≡ x }
-{
-    x as u64
+pub struct Number {
+    pub value: u64,
+    pub next: usize,
 }
 
 // Whether a group passes 2^64: the tenth has one bit left, and no other follows it.
+#[tactic(auto, using(std::proofs::lemmas::Bool::Decides::nat_tests))]
 fn passes(shift: u64, group: u64) -> bool
     ensures { result ≡ (eqb shift 63 && ltb 1 group) }
 {
@@ -31,139 +26,93 @@ fn passes(shift: u64, group: u64) -> bool
 }
 
 // Whether a last group is one too many: all zeros, and not the only one.
+#[tactic(auto, using(std::proofs::lemmas::Bool::Decides::nat_tests))]
 fn is_spare(shift: u64, group: u64) -> bool
     ensures { result ≡ (eqb group 0 && ltb 0 shift) }
 {
     group == 0 && shift > 0
 }
 
-// The number at a place. Bad: the bytes end within it, it has more groups than it needs, or it is 2^64 or more.
-pub fn read_number(bytes: &[u8], at: usize) -> Number
+// The number at a place. None: the bytes end within it, it has more groups than it needs, or it is 2^64 or more.
+pub fn read_number(bytes: &[u8], at: usize) -> Option<Number>
     ensures { result ≡ number_at bytes.now at }
 {
-    let mut next = at;
     let mut shift: u64 = 0;
     let mut value: u64 = 0;
-    while next < bytes.len() {
-        let group = wide(bytes[next]);
-        next += 1;
+    for next in at..bytes.len() {
+        let group = u64::from(bytes[next]);
         if passes(shift, group) {
-            return Number::Bad;
+            return None;
         }
-        value = value | ((group & 127) << shift);
+        value |= (group & 127) << shift;
         if group < 128 {
             if is_spare(shift, group) {
-                return Number::Bad;
+                return None;
             }
-            return Number::Read(value, next);
+            return Some(Number {
+                value,
+                next: next + 1,
+            });
         }
         shift += 7;
     }
-    Number::Bad
+    None
 }
 
-// An instruction and the place behind it. Where none was read `good` is false, the place is the one that was asked for,
-// and every number of the instruction is 0.
+// An instruction that was read, and the place behind it.
 #[derive(Clone, Copy)]
 pub struct Decoded {
-    pub good: bool,
     pub next: usize,
     pub instruction: Instruction,
 }
 
-// Operands, and the place behind them.
+// Operands that were read, and the place behind them.
 #[derive(Clone, Copy)]
 struct Operands {
-    good: bool,
     next: usize,
     values: [u64; 257],
 }
 
-fn no_operands(at: usize) -> Operands
-    ensures { result ≡ operands_of at broken }
-{
-    Operands {
-        good: false,
-        next: at,
-        values: [0u64; 257],
-    }
-}
-
 // As many numbers as the count says.
-fn read_operands(bytes: &[u8], at: usize, count: u64) -> Operands
+fn read_operands(bytes: &[u8], at: usize, count: u64) -> Option<Operands>
     requires { count ≤ 257 }
-    ensures { result ≡ operands_of at (numbers_at count bytes.now at) }
+    ensures { result ≡ operands_of (numbers_at count bytes.now at) }
 {
-    let total = count as usize;
     let mut values = [0u64; 257];
     let mut next = at;
-    let mut read: usize = 0;
-    while read < total {
-        let Number::Read(value, behind) = read_number(bytes, next) else {
-            return no_operands(at);
-        };
-        values[read] = value;
-        next = behind;
-        read += 1;
+    for read in 0..count as usize {
+        let number = read_number(bytes, next)?;
+        values[read] = number.value;
+        next = number.next;
     }
-    Operands {
-        good: true,
-        next,
-        values,
-    }
-}
-
-fn undecoded(at: usize) -> Decoded
-    ensures { result ≡ decoded_of at bad }
-{
-    Decoded {
-        good: false,
-        next: at,
-        instruction: instruction::without_operands(0, 0),
-    }
+    Some(Operands { next, values })
 }
 
 // The instruction at a place: operation, parameter, count, and as many operands, 257 at most.
-pub fn read_instruction(bytes: &[u8], at: usize) -> Decoded
-    ensures { result ≡ decoded_of at (instruction_at bytes.now at) }
+#[tactic(auto, unfolding(crate::specs::Instructions::instruction_at, crate::specs::Instructions::after, crate::specs::Instructions::operands))]
+pub fn read_instruction(bytes: &[u8], at: usize) -> Option<Decoded>
+    ensures { result ≡ decoded_of (instruction_at bytes.now at) }
 {
-    let Number::Read(operation, a) = read_number(bytes, at) else {
-        return undecoded(at);
-    };
-    let Number::Read(parameter, b) = read_number(bytes, a) else {
-        return undecoded(at);
-    };
-    let Number::Read(count, c) = read_number(bytes, b) else {
-        return undecoded(at);
-    };
-    if count > 257 {
-        return undecoded(at);
+    let operation = read_number(bytes, at)?;
+    let parameter = read_number(bytes, operation.next)?;
+    let count = read_number(bytes, parameter.next)?;
+    if count.value > 257 {
+        return None;
     }
-    let listed = read_operands(bytes, c, count);
-    if !listed.good {
-        return undecoded(at);
-    }
+    let listed = read_operands(bytes, count.next, count.value)?;
     let operands = listed.values;
-    Decoded {
-        good: true,
+    Some(Decoded {
         next: listed.next,
         instruction: Instruction {
-            operation,
-            parameter,
-            count,
+            operation: operation.value,
+            parameter: parameter.value,
+            count: count.value,
             operands,
         },
-    }
+    })
 }
 
-// Where a written number ends, unless it has no room.
-#[derive(Clone, Copy)]
-pub enum Written {
-    Behind(usize),
-    NoRoom,
-}
-
-// How many digits a number has in a base.
+// How many digits a number has in a base. What is counted is the loop's turns, so no range gives them.
 pub fn digit_count(n: u64, base: u64) -> usize
     requires { 1 < base }
     ensures { result ≡ length (digits base n) }
@@ -189,27 +138,24 @@ fn put_groups(out: &mut [u8], at: usize, n: u64) -> usize
     requires { at + length (groups n) ≤ length out.old }
     ensures { Puts out.old at (groups n) result out.new }
 {
-    let mut next = at;
+    let last = at + group_count(n) - 1;
     let mut rest = n;
-    while rest >= 128 {
+    for next in at..last {
         out[next] = (128 + rest % 128) as u8;
-        next += 1;
         rest = rest / 128;
     }
-    out[next] = rest as u8;
-    next + 1
+    out[last] = rest as u8;
+    last + 1
 }
 
-// A number's groups at a place, and nothing where they have no room.
-pub fn write_number(out: &mut [u8], at: usize, n: u64) -> Written
+// A number's groups at a place, and the place behind them. None: they have no room, and nothing changes.
+#[tactic(auto, unfolding(crate::specs::Writing::written_of, crate::specs::Writing::with_number, crate::specs::Writing::fits))]
+pub fn write_number(out: &mut [u8], at: usize, n: u64) -> Option<usize>
     ensures { (result ≡ written_of out.old at n) × (out.new ≡ with_number out.old at n) }
 {
-    let count = group_count(n);
-    if at > out.len() {
-        return Written::NoRoom;
+    let end = at.checked_add(group_count(n))?;
+    if end > out.len() {
+        return None;
     }
-    if count > out.len() - at {
-        return Written::NoRoom;
-    }
-    Written::Behind(put_groups(out, at, n))
+    Some(put_groups(out, at, n))
 }

@@ -11,7 +11,7 @@ use Rattle.arena.specs.Cells.{padded}
 use Rattle.instruction.specs.Instruction.{Instr}
 use Rattle.codec.specs.Instructions.{Reading, whole, bad, instruction_at, all_groups, numbers, Encodes}
 use Rattle.answers.specs.Lines.{refused_line}
-use Rattle.codec.proofs.Choices.{lt_or_le}
+use Rattle.std.proofs.lemmas.Bool.{cases_lt}
 use Rattle.codec.proofs.Listed.{instruction_read, instruction_back}
 use Rattle.table.specs.Call.{call_on}
 use Rattle.table.specs.Answers.{mark_after}
@@ -121,7 +121,7 @@ split_read bytes at more (whole i next) e =
     let b = three_bytes bytes at i next e in
     split_whole ((instruction_read bytes at i next).0 e) (more next (omega arith))
 split_read bytes at more bad e =
-    split_none bytes at (⊎_elim (λ h. inr (omega (arith, length-drop at bytes), e)) (λ h. inl (drop_of_length-le bytes h)) (lt_or_le at (length bytes)))
+    split_none bytes at (⊎_elim (λ h. inr (omega (arith, length-drop at bytes), e)) (λ h. inl (drop_of_length-le bytes h)) (cases_lt at (length bytes)))
 
 split : (bytes : List ℕ) (k at : ℕ) → length bytes ≤ at + k → Split bytes at
 split bytes zero at h = split_none bytes at (inl (drop_of_length-le bytes {i = at} (omega arith)))

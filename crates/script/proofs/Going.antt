@@ -4,7 +4,7 @@ use mathlib.Core.List.{List, [], ◌++◌, append_assoc, append-nil}
 use Prim.Native.Nat.{ℕ, ◌+◌, ◌≤◌, ◌<◌}
 use native.Mathlib.Omega.{arith}
 use borrow.Author.Tests.{le-leb, lt-leb}
-use lib.ListN.{length, drop, length-append}
+use lib.ListN.{length, length-append}
 use Rattle.arena.specs.Nodes.{mark, fresh}
 use Rattle.arena.specs.Cells.{padded}
 use Rattle.arena.specs.Fresh.{Freshened}
@@ -15,7 +15,7 @@ use Rattle.instruction.specs.Instruction.{Instr}
 use Rattle.codec.specs.Instructions.{whole, bad, instruction_at}
 use Rattle.codec.specs.Writing.{put, Puts}
 use Rattle.answers.specs.Lines.{refused_line}
-use Rattle.codec.proofs.Putting.{length-put, puts_puts}
+use Rattle.codec.proofs.Putting.{length-put, puts_puts, puts_inside}
 use Rattle.table.specs.Call.{Reply}
 use Rattle.table.specs.Answers.{reply_of, Answered, mark_after}
 use Rattle.table.specs.declared.Answer.{Answer}
@@ -131,10 +131,7 @@ ready h l k r f = record { short = h; arena = made_arena f (omega arith) (omega 
 
 -- the lines stand within the lent bytes
 pub ran-inside : {bytes c out : List ℕ} {r : ℕ} {c' out' : List ℕ} → Ran bytes c out r c' out' → r ≤ length out'
-unfolding put
-ran-inside {bytes} {out = out} w =
-    let e = ap length w.written.bytewise in
-    omega (arith, w.written.behind, length-append (answers bytes) (drop (0 + length (answers bytes)) out))
+ran-inside w = puts_inside (omega arith) w.written
 
 -- what the promise allows is one
 pub ran-one : {bytes c out : List ℕ} {r s : ℕ} {c' d out' back : List ℕ} → Ran bytes c out r c' out' → Ran bytes c out s d back → (r ≡ s) × (c' ≡ d) × (out' ≡ back)

@@ -26,16 +26,14 @@ fn step(bytes: &[u8], cells: &mut [u64], out: &mut [u8], place: Place) -> Place
     requires { IsArena cells.old place.mark × (place.end + 45 ≤ length out.old) }
     ensures { Stepped bytes.now cells.old out.old place result cells.new out.new }
 {
-    let read = codec::read_instruction(bytes, place.at);
-    if !read.good {
+    let Some(read) = codec::read_instruction(bytes, place.at) else {
         return Place {
             at: bytes.len(),
             mark: place.mark,
             end: answers::write_refused(out, place.end, 10),
         };
-    }
-    let instruction = read.instruction;
-    let answer = call::call_known(cells, place.mark, instruction);
+    };
+    let answer = call::call_known(cells, place.mark, read.instruction);
     Place {
         at: read.next,
         mark: answers::next_mark(place.mark, answer),
@@ -43,7 +41,8 @@ fn step(bytes: &[u8], cells: &mut [u64], out: &mut [u8], place: Place) -> Place
     }
 }
 
-// One instruction after the other, until no byte is left.
+// One instruction after the other, until no byte is left. A step says itself where the next begins, so no range counts the steps.
+#[tactic(auto, using(crate::proofs::Going::going_none, crate::proofs::Going::going_length, crate::proofs::Going::going_stepped))]
 fn walk(bytes: &[u8], cells: &mut [u64], out: &mut [u8], mark: usize) -> usize
     requires { Ready bytes.now cells.old mark out.old }
     ensures { Walked bytes.now cells.old mark out.old result cells.new out.new }

@@ -68,13 +68,11 @@ fn try_cell(rt: &impl Print, i: usize) -> io::Result<()>
 {
     let mut count: u64 = 0;
     let mut sum: u64 = 0;
-    let mut v: u64 = 0;
-    while v <= 160 {
+    for v in 0..=160 {
         if accepted(i, v) {
             count += 1;
             sum += v;
         }
-        v += 1;
     }
     if count > 0 {
         tell(rt, i as u64, count, sum)?;

@@ -1,27 +1,20 @@
-use borrow.Author.Rules.{rules}
-use mathlib.Core.Path.{refl, ◌∙◌}
-use native.Mathlib.Nat.{add-zero}
+use mathlib.Core.Path.{◌≡◌, refl, sym, ap, ◌∙◌}
+use mathlib.Core.List.{List, ◌++◌, append_assoc}
+use Prim.Native.Nat.{ℕ, ◌+◌, ◌-◌}
 use native.Mathlib.Omega.{arith}
-use Prim.Native.Nat.{◌+◌}
-use lib.ListN.{get_or, length-set}
-use Rattle.answers.proofs.Turns.{byte_more, byte_end}
-use Rattle.codec.proofs.Putting.{sets_puts}
+use lib.ListN.{length, take, drop}
+use lib.Seq.{drop-drop}
+use Rattle.codec.specs.Writing.{put}
 use Rattle.answers.proofs.write_bytes.Goals as goal
 
-pub loop-i-init : goal.loop-i-init
-loop-i-init c = (search rules, refl, rw add-zero)
-
-pub loop-i-preserved : goal.loop-i-preserved
-loop-i-preserved c =
-    let l = c.loop-i in
-    let s = c.args in (
-      search rules,
-      length-set l.out (s.at + l.i) (get_or s.bytes.now l.i 0) ∙ l.invariant.1,
-      byte_more l.out _ s.bytes.now s.at l.i l.invariant.2 c.loop-i-test.true,
-    )
-
 pub returns : goal.returns
+unfolding put
 returns c =
-    let l = c.loop-i in
     let s = c.args in
-    sets_puts c.requires (search rules) (byte_end l.out _ s.bytes.now s.at l.i l.invariant.2 (omega arith))
+    let b = s.bytes.now in
+    let front = take s.at s.out.now in
+    let room : s.at + length b - s.at ≡ length b = omega arith in
+    record {
+      behind = refl;
+      bytewise = rw (room, c.copy_from_slice.ensures.after) (ap (λ (l : List ℕ). front ++ (b ++ l)) (drop-drop (length b) s.at s.out.now) ∙ sym (append_assoc front b (drop (s.at + length b) s.out.now)));
+    }

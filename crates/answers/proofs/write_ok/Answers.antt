@@ -1,15 +1,5 @@
-use native.Mathlib.Omega.{arith}
-use Rattle.answers.specs.Lines.{ok, space}
-use Rattle.answers.proofs.Answers.{field-most, puts_ok}
+use Rattle.answers.proofs.Answers.{puts_ok}
 use Rattle.answers.proofs.write_ok.Goals as goal
-
-pub write_field-b-requires : goal.write_field-b-requires
-write_field-b-requires c =
-    omega (arith, field-most ok c.args.position c.ranges.position.fits)
-
-pub write_bytes-requires : goal.write_bytes-requires
-write_bytes-requires c =
-    omega (arith, field-most ok c.args.position c.ranges.position.fits, field-most space c.args.mark c.ranges.mark.fits)
 
 pub returns : goal.returns
 returns c =

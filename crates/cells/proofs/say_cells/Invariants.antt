@@ -1,5 +1,6 @@
-use Rattle.std.proofs.Common.{◌-◌, length}
+-- The text stays within its room.
+use Rattle.std.proofs.Common.{◌≤◌}
 use Rattle.cells.proofs.say_cells.Given as goal
 
-abbrev pub decreases-loop-i : goal.decreases-loop-i
-decreases-loop-i g l = length l.cells - l.i
+abbrev pub invariant-loop-cell : goal.invariant-loop-cell
+invariant-loop-cell g l = l.end ≤ 4096

@@ -1,10 +1,5 @@
-use native.Mathlib.Nat.{div-lt_self}
-use native.Mathlib.Omega.{arith}
 use Rattle.codec.proofs.Turns.{count_more, count_end}
 use Rattle.codec.proofs.digit_count.Goals as goal
-
-pub loop-rest-smaller : goal.loop-rest-smaller
-loop-rest-smaller c = div-lt_self (omega arith) c.requires
 
 pub loop-rest-preserved : goal.loop-rest-preserved
 loop-rest-preserved c = count_more c.requires c.loop-rest-test.true c.loop-rest.invariant

@@ -6,9 +6,6 @@ use lib.Seq.{sets}
 use Rattle.codec.specs.Numbers.{groups}
 use Rattle.codec.proofs.put_groups.Given as goal
 
-abbrev pub invariant-loop-rest : goal.invariant-loop-rest
-invariant-loop-rest l =
-    (length l.out ≡ length l.initial.out) × (l.next + length (groups l.rest) ≡ l.at + length (groups l.n)) × (sets l.out l.next (groups l.rest) ≡ sets l.initial.out l.at (groups l.n))
-
-abbrev pub decreases-loop-rest : goal.decreases-loop-rest
-decreases-loop-rest l = l.rest
+abbrev pub invariant-loop-next : goal.invariant-loop-next
+invariant-loop-next l =
+    (l.next + length (groups l.rest) ≡ l.at + length (groups l.n)) × (sets l.out l.next (groups l.rest) ≡ sets l.initial.out l.at (groups l.n))

@@ -1,7 +1,6 @@
 -- The groups that are left give what the whole number gives.
 use mathlib.Core.Path.{◌≡◌}
-use Prim.Native.Nat.{◌-◌}
-use lib.ListN.{length, drop}
+use lib.ListN.{drop}
 use Rattle.codec.specs.Numbers.{number_at}
 use Rattle.codec.proofs.Steps.{Begun, steps}
 use Rattle.codec.proofs.read_number.Given as goal
@@ -9,6 +8,3 @@ use Rattle.codec.proofs.read_number.Given as goal
 abbrev pub invariant-loop-next : goal.invariant-loop-next
 invariant-loop-next l =
     Begun l.value l.shift × (steps l.value l.shift l.next (drop l.next l.bytes) ≡ number_at l.bytes l.at)
-
-abbrev pub decreases-loop-next : goal.decreases-loop-next
-decreases-loop-next l = length l.bytes - l.next
