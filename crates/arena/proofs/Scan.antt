@@ -37,6 +37,9 @@ module _ {c : List ℕ} {m : ℕ} (B : Below c m) (key : Node) (q : ℕ) (s : Sc
     pub scan_fits : after c q ≤ m
     scan_fits = after_end B q scan_pos
 
+    pub scan_within : after c q ≤ length c
+    scan_within = let f = scan_fits in let g = B.fits in omega arith
+
     -- it is the one
     pub scan_hit : same (node_here c q) key ≡ true → find (used c m) key ≡ some q
     scan_hit e =

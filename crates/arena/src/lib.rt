@@ -8,9 +8,9 @@ pub mod cells;
 pub const HEADER: usize = 4;
 
 // Where a term's node starts.
-#[derive(Clone, Copy)]
+#[derive(Clone, Copy, Debug, PartialEq, Eq)]
 pub struct TermPos(pub u64);
 
 // Where a type's node starts.
-#[derive(Clone, Copy)]
+#[derive(Clone, Copy, Debug, PartialEq, Eq)]
 pub struct TypePos(pub u64);

@@ -1,2 +1,2 @@
--- Laws of whole numbers by sign and magnitude.
-pub mod Whole
+-- Laws of signed values.
+pub mod Signed

@@ -18,7 +18,7 @@ const LONGEST: usize = 65536;
 const LINES: usize = 4096;
 
 // The position of a line that gave none: a number, since the call is asked with it as with any other.
-const NOWHERE: u64 = 18446744073709551615;
+const NOWHERE: u64 = u64::MAX;
 
 // Where a script stands: the next byte, and the mark.
 #[derive(Clone, Copy)]
@@ -35,11 +35,7 @@ fn operand(results: &[u64], x: u64) -> u64 {
         return x / 2;
     }
     let line = (x / 2) as usize;
-    if line < results.len() {
-        results[line]
-    } else {
-        NOWHERE
-    }
+    results.get(line).copied().unwrap_or(NOWHERE)
 }
 
 fn resolved(results: &[u64], instruction: Instruction) -> Instruction

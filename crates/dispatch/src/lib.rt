@@ -9,7 +9,6 @@ ghost use Rattle.table.specs.Table.{row};
 ghost use Rattle.table.specs.Forms.{Passes};
 
 use arena::{TermPos, TypePos};
-use bitvec::Width;
 use nodes::{Arena, Full};
 use runs::nth;
 
@@ -32,7 +31,7 @@ pub fn build_type(arena: &mut Arena<'_>, op: u64, par: u64, xs: &[u64]) -> Resul
     let ty = TypePos(nth(xs, 0));
     match op {
         1 => arena.type_node(1, 0, &[]),
-        2 => factory_makers::bitvec_type(arena, Width(par)),
+        2 => factory_makers::bitvec_type(arena, par),
         3 => factory_makers::option_type(arena, ty),
         4 => factory_makers::set_type(arena, ty),
         _ => factory_makers::record_type(arena, xs),

@@ -1,13 +1,14 @@
 -- What operands that fit are to the bitvector operations and to the steps on options. Assumes nothing.
-use mathlib.Core.Path.{◌≡◌, refl, sym, ◌∙◌, subst}
+use mathlib.Core.Path.{◌≡◌, refl, sym, ap, ◌∙◌, subst}
 use Prim.Native.Nat.{ℕ, ◌+◌, ◌^◌, ◌≤◌, ◌<◌}
 use mathlib.Core.List.{[]}
 use native.Mathlib.Omega.{arith}
-use mathlib.Core.Bool.{Bool, true}
+use mathlib.Core.Bool.{Bool, true, false, cond}
+use Rattle.std.specs.Prelude.{Option, Some, None}
 use mathlib.Core.Logic.{inl}
 use lib.Dec.{eqb}
 use borrow.Author.Tests.{eqb-true, leb-true}
-use Rattle.smtlib.specs.Theory.{IsWidth, IsBv, AreBv}
+use Rattle.smtlib.specs.Theory.{IsWidth}
 use Rattle.arena.specs.Nodes.{node, Nodes, kind_at, type_at, par_at, arg_at, elem_at, width_at, put, Out}
 use Rattle.arena.specs.WellFormed.{is_type, is_term}
 use Rattle.arena.specs.Values.{Ty, tbool, topt, tset}
@@ -22,7 +23,7 @@ use Rattle.arena.proofs.Types.{width_range}
 use Rattle.arena.proofs.Known.{bv_node, some_node}
 use Rattle.arena.proofs.Whole.{elem_type}
 use Rattle.factory.specs.Fit.{Typed, Alike, OfKind}
-use Rattle.factory.specs.Bitvectors.{is_bv, both_bv, extended_to}
+use Rattle.factory.specs.Bitvectors.{is_bv, both_bv, extended_to, literals_at}
 use Rattle.factory.specs.Makers.{bool_at}
 use Rattle.factory.proofs.Law.{tm_typed, same_tm, opt_typed, set_typed, bv_typed, bv_kind, bv_width, typed_ext}
 use Rattle.factory.proofs.Equal.{bool-type_of, as_bool_lem, some_type, some_inner}
@@ -32,20 +33,19 @@ module _ {a : Nodes} (w : WF a) where
   pub type_pos : (t : ℕ) → is_term a t ≡ true → 1 ≤ kind_at a (type_at a t)
   type_pos t h = leb-true 1 (kind_at a (type_at a t)) (every-all _ (term_type w.chain t h)).0
 
-  pub one_bv : (t : ℕ) → OfKind a 2 t → kind_at a t ≡ 17 → IsBv (width_at a t) (par_at a t)
-  one_bv t k e =
-      let r = width_range w.chain (type_at a t) k.sort in
-      record { width = record { least = r.0; most = r.1 }; below = (bv_node w t e).below }
+  -- the width of a bitvector term
+  pub is_width : (t : ℕ) → OfKind a 2 t → IsWidth (width_at a t)
+  is_width t k = let r = width_range w.chain (type_at a t) k.sort in record { least = r.0; most = r.1 }
 
-  pub two_bv : (t u : ℕ) → OfKind a 2 t → Alike a t u → both_bv a t u ≡ true → AreBv (width_at a t) (par_at a t) (par_at a u)
-  two_bv t u k m e =
-      let o = one_bv t k (eqb-true _ _ (and_l (eqb (kind_at a t) 17) _ e)) in
-      let b = bv_node w u (eqb-true _ _ (and_r (eqb (kind_at a t) 17) _ e)) in
-      record {
-        width = o.width;
-        left = o.below;
-        right = subst (λ (s : ℕ). par_at a u < 2 ^ par_at a s) (same_tm w m.0 m.1).typed b.below;
-      }
+  pub one_bv : (t : ℕ) → kind_at a t ≡ 17 → par_at a t < 2 ^ width_at a t
+  one_bv t e = (bv_node w t e).below
+
+  pub two_bv : (t u : ℕ) → Alike a t u → both_bv a t u ≡ true → (par_at a t < 2 ^ width_at a t) × par_at a u < 2 ^ width_at a t
+  two_bv t u m e =
+      let b = bv_node w u (eqb-true _ _ (and_r (eqb (kind_at a t) 17) _ e)) in (
+        one_bv t (eqb-true _ _ (and_l (eqb (kind_at a t) 17) _ e)),
+        subst (λ (s : ℕ). par_at a u < 2 ^ par_at a s) (same_tm w m.0 m.1).typed b.below,
+      )
 
   -- the terms under two Somes of one type are of one type
   pub some_alike : (t u : ℕ) → kind_at a t ≡ 19 → kind_at a u ≡ 19 → Alike a t u → Alike a (arg_at a t 0) (arg_at a u 0)
@@ -63,11 +63,8 @@ module _ {a : Nodes} (w : WF a) where
   bool_arm' b t u e m = as_bool_lem w (bool-type_of w b u e m.1) m.0
 
   -- the wider type, v the width
-  pub wider : {v t : ℕ} (n : ℕ) → v ≡ width_at a t → OfKind a 2 t → width_at a t + n ≤ 64 → IsWidth (v + n)
-  wider {t = t} n e k h = let r = width_range w.chain (type_at a t) k.sort in record { least = omega arith; most = omega arith }
-
   pub wider_type : {v t : ℕ} (n : ℕ) → v ≡ width_at a t → OfKind a 2 t → width_at a t + n ≤ 64 → TypeLaw a (node 2 0 (v + n) []) (put a (node 2 0 (v + n) []))
-  wider_type {v} n e k h = let i = wider n e k h in type_added (node 2 0 (v + n) []) w (omega arith) (is_bv_lem (v + n) i.least i.most)
+  wider_type {v} {t} n e k h = let i = is_width t k in type_added (node 2 0 (v + n) []) w (omega arith) (is_bv_lem (v + n) (omega arith) (omega arith))
 
   -- a bitvector keeps its width
   pub bv_keep : {b : Nodes} (n t : ℕ) → Ext a b → WF b → OfKind a 2 t → width_at a t + n ≤ 64 → OfKind b 2 t × width_at b t + n ≤ 64
@@ -93,3 +90,20 @@ set_alike w {s} k m = record { isterm = m.1.isterm; typed = m.1.typed ∙ (set_t
 -- two terms of one type
 pub alike : {a : Nodes} {y : Ty} {x z : ℕ} → Typed a y x → Typed a y z → Alike a x z
 alike m n = (record { isterm = m.isterm; typed = refl }, record { isterm = n.isterm; typed = n.typed ∙ sym m.typed })
+
+-- what the search for two literals says
+pub literals_some : (a : Nodes) (t u l r : ℕ) → literals_at a t u ≡ Some (l, r) → (both_bv a t u ≡ true) × (par_at a t ≡ l) × (par_at a u ≡ r)
+unfolding literals_at
+literals_some a t u l r = go (both_bv a t u) refl
+  where
+    go : (b : Bool) → both_bv a t u ≡ b → cond {A = Option (ℕ × ℕ)} b (Some (par_at a t, par_at a u)) None ≡ Some (l, r) → (both_bv a t u ≡ true) × (par_at a t ≡ l) × (par_at a u ≡ r)
+    go true e h = let p : ◌≡◌ {A = ℕ × ℕ} (par_at a t, par_at a u) (l, r) = cc in (e, ap (λ (q : ℕ × ℕ). q.0) p, ap (λ (q : ℕ × ℕ). q.1) p)
+    go false e h = absurd cc
+
+pub literals_none : (a : Nodes) (t u : ℕ) → literals_at a t u ≡ None → both_bv a t u ≡ false
+unfolding literals_at
+literals_none a t u = go (both_bv a t u) refl
+  where
+    go : (b : Bool) → both_bv a t u ≡ b → cond {A = Option (ℕ × ℕ)} b (Some (par_at a t, par_at a u)) None ≡ None → both_bv a t u ≡ false
+    go true e h = absurd cc
+    go false e h = e

@@ -55,11 +55,11 @@ pair_front b i x y h =
 pub pair_back : (b : List ℕ) (i x y n : ℕ) → i + 2 ≤ n → drop n (set (set b i x) (i + 1) y) ≡ drop n b
 pair_back b i x y n h = drop-set-lt n (set b i x) (i + 1) y (omega arith) ∙ drop-set-lt n b i x (omega arith)
 
-pub types_next : (a : Nodes) (l b : List ℕ) (i v : ℕ) → i + 1 < length l → i + 1 < length b → v ≡ type_at a (get_or l (i + 1) 0)
-    → take i b ++ field_types a (drop i l) ≡ take (i + 2) (set (set b i (get_or l i 0)) (i + 1) v) ++ field_types a (drop (i + 2) l)
+pub types_next : (a : Nodes) (l b : List ℕ) (i j v : ℕ) → i + 2 ≡ j → i + 1 < length l → i + 1 < length b → v ≡ type_at a (get_or l (i + 1) 0)
+    → take i b ++ field_types a (drop i l) ≡ take j (set (set b i (get_or l i 0)) (i + 1) v) ++ field_types a (drop j l)
 unfolding field_types
-types_next a l b i v h k e =
-    rw (two l i h, pair_front b i (get_or l i 0) v k, e) (sym (append_assoc (take i b) (get_or l i 0 ∷ type_at a (get_or l (i + 1) 0) ∷ []) (field_types a (drop (i + 2) l))))
+types_next a l b i j v q h k e =
+    rw (← q, two l i h, pair_front b i (get_or l i 0) v k, e) (sym (append_assoc (take i b) (get_or l i 0 ∷ type_at a (get_or l (i + 1) 0) ∷ []) (field_types a (drop (i + 2) l))))
 
 pub types_last : (a : Nodes) (l t : List ℕ) (i : ℕ) → length l ≤ i + 1 → t ++ field_types a (drop i l) ≡ t
 unfolding field_types
@@ -70,10 +70,10 @@ types_last a l t i h = go (few l i h)
     go (f1 x) = append-nil t
 
 -- the term of the next field, and those behind it
-pub odd_term : (a : Nodes) (l : List ℕ) (i : ℕ) → i + 1 < length l → all (is_term a) (odds (drop i l)) ≡ true
-    → (is_term a (get_or l (i + 1) 0) ≡ true) × (all (is_term a) (odds (drop (i + 2) l)) ≡ true)
+pub odd_term : (a : Nodes) (l : List ℕ) (i j : ℕ) → i + 2 ≡ j → i + 1 < length l → all (is_term a) (odds (drop i l)) ≡ true
+    → (is_term a (get_or l (i + 1) 0) ≡ true) × (all (is_term a) (odds (drop j l)) ≡ true)
 unfolding odds
-odd_term a l i h e = all-at (is_term a) (get_or l (i + 1) 0) (odds (drop (i + 2) l)) (ap (λ (r : List ℕ). all (is_term a) (odds r)) (sym (two l i h)) ∙ e)
+odd_term a l i j q h e = rw (← q) (all-at (is_term a) (get_or l (i + 1) 0) (odds (drop (i + 2) l)) (ap (λ (r : List ℕ). all (is_term a) (odds r)) (sym (two l i h)) ∙ e))
 
 pub types_held : (l : List ℕ) {b b₀ t : List ℕ} {i : ℕ} → i ≡ length l → length b ≡ length b₀ → length l ≤ length b₀ → t ≡ take i b → drop (length l) b ≡ drop (length l) b₀
     → Holds t b₀ (length l) b

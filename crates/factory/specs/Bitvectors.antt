@@ -1,5 +1,5 @@
 -- 'SMTLib theory of finite bitvectors': literals are folded and nothing else, but for a double bvneg.
-use Rattle.std.specs.Prelude.{ℕ, ◌+◌, Bool, cond, ◌&&◌, [], ◌∷◌, eqb}
+use Rattle.std.specs.Prelude.{ℕ, ◌+◌, Bool, cond, ◌&&◌, [], ◌∷◌, eqb, Option, Some, None}
 use Rattle.smtlib.specs.Theory.{bvneg}
 use Rattle.smtlib.specs.Logic.{zero_extend}
 use Rattle.smtlib.specs.Overflow.{bvnego}
@@ -12,6 +12,10 @@ is_bv a t = eqb (kind_at a t) 17
 
 abbrev pub both_bv : Nodes → ℕ → ℕ → Bool
 both_bv a t u = is_bv a t && is_bv a u
+
+-- both values, where both are literals
+unfoldable pub literals_at : Nodes → ℕ → ℕ → Option (ℕ × ℕ)
+literals_at a t u = cond (both_bv a t u) (Some (par_at a t, par_at a u)) None
 
 unfoldable pub bvneg_t : Nodes → ℕ → Out
 bvneg_t a t =

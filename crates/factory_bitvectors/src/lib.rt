@@ -7,7 +7,7 @@ ghost use Rattle.arena.specs.Nodes.{width_at};
 ghost use Rattle.arena.specs.WellFormed.{is_term};
 ghost use Rattle.nodes.specs.Builds.{nodes_of, Builds, term_reply};
 ghost use Rattle.factory.specs.Fit.{Alike, OfKind, Ready};
-ghost use Rattle.factory.specs.Bitvectors.{both_bv, bvneg_t, bvapp_t, bvcmp_t, bvnego_t, bvso_t, extended_to, zero_extend_t};
+ghost use Rattle.factory.specs.Bitvectors.{literals_at, bvneg_t, bvapp_t, bvcmp_t, bvnego_t, bvso_t, extended_to, zero_extend_t};
 
 use arena::{TermPos, TypePos};
 use bitvec::Width;
@@ -19,10 +19,12 @@ use nodes::{Arena, Full};
 // The width of a bitvector term.
 fn width_of(arena: &Arena<'_>, t: TermPos) -> Width
     requires { Ready (λ a. OfKind a 2 t.0) arena.now }
-    ensures { result.0 ≡ width_at (nodes_of arena.now) t.0 }
+    ensures { result.bits ≡ width_at (nodes_of arena.now) t.0 }
 {
     let ty = arena.type_of(t);
-    Width(arena.par_of(ty.0))
+    Width {
+        bits: arena.par_of(ty.0),
+    }
 }
 
 pub fn bvneg(arena: &mut Arena<'_>, t: TermPos) -> Result<TermPos, Full>
@@ -42,12 +44,15 @@ pub fn bvneg(arena: &mut Arena<'_>, t: TermPos) -> Result<TermPos, Full>
     app1(arena, 30, ty, t)
 }
 
-// Whether both are bitvector literals.
-fn both_bv(arena: &Arena<'_>, t: TermPos, u: TermPos) -> bool
+// Both values, where both are bitvector literals.
+fn literals(arena: &Arena<'_>, t: TermPos, u: TermPos) -> Option<(u64, u64)>
     requires { Ready (λ a. is_term a t.0 ≡ true × is_term a u.0 ≡ true) arena.now }
-    ensures { result ≡ both_bv (nodes_of arena.now) t.0 u.0 }
+    ensures { result ≡ literals_at (nodes_of arena.now) t.0 u.0 }
 {
-    (arena.kind_of(t.0) == 17) & (arena.kind_of(u.0) == 17)
+    if (arena.kind_of(t.0) == 17) & (arena.kind_of(u.0) == 17) {
+        return Some((arena.par_of(t.0), arena.par_of(u.0)));
+    }
+    None
 }
 
 // Operations 31 to 40: the number stands for the Rust's closure.
@@ -57,10 +62,8 @@ pub fn bvapp(arena: &mut Arena<'_>, op: u64, t: TermPos, u: TermPos) -> Result<T
     ensures { Builds (λ a. bvapp_t op a t.0 u.0) arena.old (term_reply result) arena.new }
 {
     let ty = arena.type_of(t);
-    if both_bv(arena, t, u) {
+    if let Some((lhs, rhs)) = literals(arena, t, u) {
         let width = width_of(arena, t);
-        let lhs = arena.par_of(t.0);
-        let rhs = arena.par_of(u.0);
         return bitvec_lit(arena, ty, bitvec_closures::bvapp(op, width, lhs, rhs));
     }
     app2(arena, op, ty, t, u)
@@ -72,10 +75,8 @@ pub fn bvcmp(arena: &mut Arena<'_>, op: u64, t: TermPos, u: TermPos) -> Result<T
     requires op_bound { op ≤ 99 }
     ensures { Builds (λ a. bvcmp_t op a t.0 u.0) arena.old (term_reply result) arena.new }
 {
-    if both_bv(arena, t, u) {
+    if let Some((lhs, rhs)) = literals(arena, t, u) {
         let width = width_of(arena, t);
-        let lhs = arena.par_of(t.0);
-        let rhs = arena.par_of(u.0);
         return Ok(bool_at(bitvec_closures::bvcmp(op, width, lhs, rhs)));
     }
     app2(arena, op, BOOL, t, u)
@@ -99,10 +100,8 @@ pub fn bvso(arena: &mut Arena<'_>, op: u64, t: TermPos, u: TermPos) -> Result<Te
     requires op_bound { op ≤ 99 }
     ensures { Builds (λ a. bvso_t op a t.0 u.0) arena.old (term_reply result) arena.new }
 {
-    if both_bv(arena, t, u) {
+    if let Some((lhs, rhs)) = literals(arena, t, u) {
         let width = width_of(arena, t);
-        let lhs = arena.par_of(t.0);
-        let rhs = arena.par_of(u.0);
         return Ok(bool_at(bitvec_closures::bvso(op, width, lhs, rhs)));
     }
     app2(arena, op, BOOL, t, u)
@@ -126,6 +125,6 @@ pub fn zero_extend(arena: &mut Arena<'_>, n: u64, t: TermPos) -> Result<TermPos,
     ensures { Builds (λ a. zero_extend_t a n t.0) arena.old (term_reply result) arena.new }
 {
     let width = width_of(arena, t);
-    let ty = bitvec_type(arena, Width(width.0 + n))?;
+    let ty = bitvec_type(arena, width.bits + n)?;
     extended(arena, n, t, ty)
 }

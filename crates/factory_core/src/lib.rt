@@ -18,10 +18,10 @@ pub fn not(arena: &mut Arena<'_>, t: TermPos) -> Result<TermPos, Full>
     requires { Ready (λ a. Typed a tbool t.0) arena.old }
     ensures { Builds (λ a. not_t a t.0) arena.old (term_reply result) arena.new }
 {
-    if t.0 == TRUE.0 {
+    if t == TRUE {
         return Ok(FALSE);
     }
-    if t.0 == FALSE.0 {
+    if t == FALSE {
         return Ok(TRUE);
     }
     if arena.kind_of(t.0) == 120 {
@@ -48,10 +48,10 @@ fn decided(arena: &Arena<'_>, t: TermPos, u: TermPos, other: TermPos) -> bool
     requires { Ready (λ a. Typed a tbool t.0 × Typed a tbool u.0) arena.now }
     ensures { result ≡ (eqb t.0 other.0 || (eqb u.0 other.0 || opposed (nodes_of arena.now) t.0 u.0)) }
 {
-    if t.0 == other.0 {
+    if t == other {
         return true;
     }
-    if u.0 == other.0 {
+    if u == other {
         return true;
     }
     opposites(arena, t, u)
@@ -70,10 +70,10 @@ fn joined(
     requires op_bound { op ≤ 99 }
     ensures { Builds (λ a. junction op unit.0 other.0 a t.0 u.0) arena.old (term_reply result) arena.new }
 {
-    if (t.0 == u.0) | (u.0 == unit.0) {
+    if (t == u) | (u == unit) {
         return Ok(t);
     }
-    if t.0 == unit.0 {
+    if t == unit {
         return Ok(u);
     }
     if decided(arena, t, u, other) {
@@ -109,22 +109,22 @@ fn eq_simplify(arena: &mut Arena<'_>, t: TermPos, u: TermPos) -> Result<TermPos,
     requires { Ready (λ a. Alike a t.0 u.0) arena.old }
     ensures { Builds (λ a. eq_simplify a t.0 u.0) arena.old (term_reply result) arena.new }
 {
-    if t.0 == u.0 {
+    if t == u {
         return Ok(TRUE);
     }
     if both_literal(arena, t, u) {
         return Ok(FALSE);
     }
-    if t.0 == TRUE.0 {
+    if t == TRUE {
         return Ok(u);
     }
-    if u.0 == TRUE.0 {
+    if u == TRUE {
         return Ok(t);
     }
-    if t.0 == FALSE.0 {
+    if t == FALSE {
         return not(arena, u);
     }
-    if u.0 == FALSE.0 {
+    if u == FALSE {
         return not(arena, t);
     }
     app2(arena, 24, BOOL, t, u)
@@ -152,22 +152,22 @@ fn ite_simplify(arena: &mut Arena<'_>, g: TermPos, t: TermPos, u: TermPos) -> Re
     requires { Ready (λ a. Typed a tbool g.0 × Alike a t.0 u.0) arena.old }
     ensures { Builds (λ a. ite_simplify a g.0 t.0 u.0) arena.old (term_reply result) arena.new }
 {
-    if (g.0 == TRUE.0) | (t.0 == u.0) {
+    if (g == TRUE) | (t == u) {
         return Ok(t);
     }
-    if g.0 == FALSE.0 {
+    if g == FALSE {
         return Ok(u);
     }
-    if (t.0 == TRUE.0) & (u.0 == FALSE.0) {
+    if (t == TRUE) & (u == FALSE) {
         return Ok(g);
     }
-    if (t.0 == FALSE.0) & (u.0 == TRUE.0) {
+    if (t == FALSE) & (u == TRUE) {
         return not(arena, g);
     }
-    if u.0 == FALSE.0 {
+    if u == FALSE {
         return and(arena, g, t);
     }
-    if t.0 == TRUE.0 {
+    if t == TRUE {
         return or(arena, g, u);
     }
     let ty = arena.type_of(t);

@@ -72,7 +72,7 @@ pub fn set_subset(arena: &mut Arena<'_>, s: TermPos, t: TermPos) -> Result<TermP
     requires { Ready (λ a. is_term a s.0 ≡ true × is_term a t.0 ≡ true) arena.old }
     ensures { Builds (λ a. set_subset a s.0 t.0) arena.old (term_reply result) arena.new }
 {
-    if s.0 == t.0 {
+    if s == t {
         return Ok(TRUE);
     }
     if is_empty_set(arena, s) {
@@ -103,7 +103,7 @@ pub fn set_inter(arena: &mut Arena<'_>, s: TermPos, t: TermPos) -> Result<TermPo
     requires { Ready (λ a. is_term a s.0 ≡ true × is_term a t.0 ≡ true) arena.old }
     ensures { Builds (λ a. set_inter a s.0 t.0) arena.old (term_reply result) arena.new }
 {
-    if s.0 == t.0 {
+    if s == t {
         return Ok(s);
     }
     if is_empty_set(arena, s) {

@@ -15,7 +15,6 @@ ghost use Rattle.arena.specs.Nodes.{elem_at, field_types};
 ghost use Rattle.arena.specs.Runs.{Holds};
 
 use arena::{TermPos, TypePos};
-use bitvec::Width;
 use nodes::{Arena, Full};
 use sorting::{fields, sorted};
 use walks::is_literal;
@@ -55,11 +54,11 @@ pub fn elem_of(arena: &Arena<'_>, t: TermPos) -> TypePos
 
 // ---------- Types ----------
 
-pub fn bitvec_type(arena: &mut Arena<'_>, width: Width) -> Result<TypePos, Full>
+pub fn bitvec_type(arena: &mut Arena<'_>, width: u64) -> Result<TypePos, Full>
     requires { Formed arena.old }
-    ensures { Builds (λ a. bitvec_type a width.0) arena.old (type_reply result) arena.new }
+    ensures { Builds (λ a. bitvec_type a width) arena.old (type_reply result) arena.new }
 {
-    arena.type_node(2, width.0, &[])
+    arena.type_node(2, width, &[])
 }
 
 pub fn option_type(arena: &mut Arena<'_>, ty: TypePos) -> Result<TypePos, Full>
@@ -93,11 +92,9 @@ fn field_types(arena: &Arena<'_>, run: &[u64], types: &mut [u64])
     requires run_in_bounds { length run.now ≤ length types.old }
     ensures { Holds (field_types (nodes_of arena.now) run.now) types.old (length run.now) types.new }
 {
-    let mut i: usize = 0;
-    while i + 1 < run.len() {
-        types[i] = run[i];
-        types[i + 1] = arena.type_of(TermPos(run[i + 1])).0;
-        i += 2;
+    for i in 0..run.len() / 2 {
+        types[2 * i] = run[2 * i];
+        types[2 * i + 1] = arena.type_of(TermPos(run[2 * i + 1])).0;
     }
 }
 

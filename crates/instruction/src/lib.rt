@@ -5,7 +5,8 @@
 ghost use Rattle.std.specs.Prelude.{◌≡◌};
 ghost use Rattle.instruction.specs.Instruction.{held, without};
 
-// The operands are the first `count` numbers of the array.
+// The operands are the first `count` numbers of the array. The array and the count stay beside each other: memory is fixed, and the
+// call takes every count, one above 257 too, which it refuses.
 #[derive(Clone, Copy)]
 pub struct Instruction {
     pub operation: u64,

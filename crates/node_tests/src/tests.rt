@@ -14,7 +14,7 @@ pub fn of_type(k: u64) -> bool
 pub fn is_sum(w: u64, a: u64, b: u64) -> bool
     ensures { result ≡ eqb w (a + b) }
 {
-    w.checked_sub(a) == Some(b)
+    a.checked_add(b) == Some(w)
 }
 
 // Whether v is below 2 to the w.

@@ -1,9 +1,9 @@
-// Tests of runs of numbers: members, and fields as attribute and position in turn. Several tests at once.
+// Tests of runs of numbers: members, and fields as attribute and position in turn.
 
 #![tactic(auto)]
 
-ghost use Rattle.std.specs.Prelude.{◌≡◌, [], ◌∷◌, ◌≤◌, length, get_or, drop, eqb};
-ghost use Rattle.arena.specs.Lists.{every, all, rising, evens, same_list, field, holds_field};
+ghost use Rattle.std.specs.Prelude.{◌≡◌, ◌≤◌, length, get_or, drop, eqb};
+ghost use Rattle.arena.specs.Lists.{all, rising, evens, field};
 ghost use Rattle.arena.specs.WellFormed.{small, field_run};
 ghost use Rattle.runs.specs.Fields.{given};
 ghost use Rattle.runs.specs.Strides.{heads};
@@ -45,13 +45,6 @@ pub fn field_run(run: &[u64]) -> bool
     run.len() % 2 == 0 && run.len() <= 128 && rises(run, 2) && keys_small(run)
 }
 
-#[tactic(auto, using(crate::proofs::Same::pointwise_same))]
-pub fn same_run(a: &[u64], b: &[u64]) -> bool
-    ensures { result ≡ same_list a.now b.now }
-{
-    a == b
-}
-
 // What the attribute k holds.
 pub fn field(run: &[u64], k: u64) -> Option<u64>
     ensures { result ≡ given (field run.now k) }
@@ -62,12 +55,4 @@ pub fn field(run: &[u64], k: u64) -> Option<u64>
         }
     }
     None
-}
-
-// Whether the attribute k holds t.
-#[tactic(auto, using(crate::proofs::Given::given_holds))]
-pub fn holds_field(run: &[u64], k: u64, t: u64) -> bool
-    ensures { result ≡ holds_field run.now k t }
-{
-    field(run, k) == Some(t)
 }

@@ -9,7 +9,8 @@ use borrow.Author.Tests.{eqb-true, eqb-false, ne_eqb}
 use Rattle.smtlib.specs.Theory.{bvneg, bvadd, bvudiv, bvurem}
 use Rattle.smtlib.specs.Logic.{top, by_tops, bvabs, bvsdiv, bvsrem, bvsmod_of, bvsmod, by_top}
 use Rattle.smtlib.proofs.Below.{bvabs-lt, bvurem-lt}
-use Rattle.smtlib.proofs.Tops.{top_lt, bit, le_or_lt}
+use Rattle.std.proofs.lemmas.Bool.{cases_lt}
+use Rattle.smtlib.proofs.Tops.{top_lt, bit}
 use Rattle.smtlib.proofs.Negation.{neg_zero, neg_pos}
 
 -- what holds at the bits 0 and 1 holds at any two bits
@@ -65,7 +66,7 @@ modulus g h u =
 
 -- a negation is 0 exactly where the number is
 neg_none : (m u : ℕ) → u < 2 ^ m → eqb (bvneg m u) 0 ≡ eqb u 0
-neg_none m u l = ⊎_elim some none (le_or_lt 1 u)
+neg_none m u l = ⊎_elim none some (cases_lt u 1)
   where
     some : 1 ≤ u → eqb (bvneg m u) 0 ≡ eqb u 0
     some p =

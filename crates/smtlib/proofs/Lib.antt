@@ -6,7 +6,5 @@ pub mod Negation
 pub mod Absolute
 pub mod Division
 pub mod Columns
-pub mod Differences
 pub mod Orders
-pub mod Decisions
 pub mod Examples

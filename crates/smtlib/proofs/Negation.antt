@@ -6,7 +6,7 @@ use native.Mathlib.Nat.{mod-eq_of_lt, mod_self, sub-zero}
 use native.Mathlib.Omega.{arith}
 use lib.Bits.{bit_and, and_mask, xor_add_and}
 use Rattle.smtlib.specs.Theory.{nat2bv, all_ones, bvnot, bvneg, bvadd}
-use Rattle.smtlib.proofs.Tops.{le_or_lt}
+use Rattle.std.proofs.lemmas.Bool.{cases_lt}
 
 -- flipping every bit is what is left to all ones
 pub not_sub : (m s : ℕ) → s < 2 ^ m → bvnot m s ≡ 2 ^ m - 1 - s
@@ -33,7 +33,7 @@ neg_pos m s p h = mod-eq_of_lt (omega arith)
 
 -- neg is an involution
 pub neg_neg : (m s : ℕ) → s < 2 ^ m → bvneg m (bvneg m s) ≡ s
-neg_neg m s h = ⊎_elim some none (le_or_lt 1 s)
+neg_neg m s h = ⊎_elim none some (cases_lt s 1)
   where
     some : 1 ≤ s → bvneg m (bvneg m s) ≡ s
     some p =

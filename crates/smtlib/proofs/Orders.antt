@@ -1,45 +1,30 @@
 -- Orders in their plain forms: a signed order compares the signed values. Assumes nothing.
-use mathlib.Core.Path.{◌≡◌, refl, sym, ap, ◌∙◌}
-use mathlib.Core.Bool.{Bool, true, false, ◌||◌}
+use mathlib.Core.Path.{◌≡◌, refl, sym, ◌∙◌}
+use mathlib.Core.Bool.{Bool, true, false}
 use mathlib.Core.Logic.{⊎_elim}
-use Prim.Native.Nat.{ℕ, suc, ◌-◌, ◌^◌, ◌≤◌, ◌<◌}
+use Prim.Native.Nat.{ℕ, suc, ◌-◌, ◌^◌, ◌<◌}
 use native.Mathlib.Omega.{arith}
-use lib.Dec.{eqb, leb, ltb}
-use lib.IntN.{ℤ, pos, negsuc, neg_ℤ}
+use lib.Dec.{leb, ltb}
+use lib.IntN.{ℤ, pos, negsuc}
 use lib.Signed.{lt_z, le_z}
-use borrow.Author.Tests.{lt-ltb, le-ltb, le-leb, lt-leb, eq-eqb, ne_eqb}
+use Rattle.std.proofs.lemmas.Int.{ints}
+use Rattle.std.proofs.lemmas.Bool.Decides.{nat_tests}
 use Rattle.smtlib.specs.Theory.{bvult}
 use Rattle.smtlib.specs.Logic.{top, by_top, bvule, bvslt, bvsle}
 use Rattle.smtlib.specs.Overflow.{bv2int}
-use Rattle.smtlib.proofs.Tops.{le_or_lt, bit, top_lt}
+use Rattle.smtlib.proofs.Tops.{bit, top_lt}
 use Rattle.smtlib.proofs.Absolute.{order}
-use Rattle.smtlib.proofs.Differences.{sub_lt}
 
 pub ule_le : (s t : ℕ) → bvule s t ≡ leb s t
 unfolding bvule bvult
-ule_le s t = ⊎_elim (λ (h : t ≤ s). ⊎_elim (same h) more (le_or_lt s t)) less (le_or_lt t s)
-  where
-    less : s < t → (ltb s t || eqb s t) ≡ leb s t
-    less h = rw (lt-ltb s t h, le-leb s t (omega arith)) refl
-
-    same : t ≤ s → s ≤ t → (ltb s t || eqb s t) ≡ leb s t
-    same h k = rw (le-ltb s t h, eq-eqb s t (omega arith), le-leb s t k) refl
-
-    more : t < s → (ltb s t || eqb s t) ≡ leb s t
-    more h = rw (le-ltb s t (omega arith), ne_eqb s t (λ e. omega arith), lt-leb s t h) refl
+ule_le s t = grind (arith, nat_tests)
 
 -- a number below n counted down from n: the order turns round
 down_lt : (n s t : ℕ) → s < n → t < n → ltb s t ≡ ltb (n - suc t) (n - suc s)
-down_lt n s t hs ht =
-    ⊎_elim (λ (h : t ≤ s). le-ltb s t h ∙ sym (le-ltb (n - suc t) (n - suc s) (omega arith)))
-    (λ (h : s < t). lt-ltb s t h ∙ sym (lt-ltb (n - suc t) (n - suc s) (omega arith)))
-    (le_or_lt t s)
+down_lt n s t hs ht = grind (arith, nat_tests)
 
 down_le : (n s t : ℕ) → s < n → t < n → leb s t ≡ leb (n - suc t) (n - suc s)
-down_le n s t hs ht =
-    ⊎_elim (λ (h : s ≤ t). le-leb s t h ∙ sym (le-leb (n - suc t) (n - suc s) (omega arith)))
-    (λ (h : t < s). lt-leb s t h ∙ sym (lt-leb (n - suc t) (n - suc s) (omega arith)))
-    (le_or_lt s t)
+down_le n s t hs ht = grind (arith, nat_tests)
 
 -- the signed value where the top bit is known
 value_0 : (m s : ℕ) → top m s ≡ 0 → bv2int m s ≡ pos s
@@ -49,8 +34,7 @@ value_0 m s e = rw e refl
 value_1 : (m s : ℕ) → s < 2 ^ m → top m s ≡ 1 → bv2int m s ≡ negsuc (2 ^ m - suc s)
 unfolding bv2int
 value_1 m s l e =
-    let d : 2 ^ m - s ≡ suc (2 ^ m - suc s) = omega arith in
-    rw e (sub_lt s (2 ^ m) l ∙ ap (λ (n : ℕ). neg_ℤ (pos n)) d)
+    rw e (omega (arith, ints))
 
 module _ (m s t : ℕ) (hs : s < 2 ^ m) (ht : t < 2 ^ m) where
   -- r is an order on whole numbers that agrees with q on natural ones, turned round on negative ones

@@ -1,9 +1,8 @@
 -- The top bit: 1 from half of 2 ^ m on, 0 below. Assumes nothing.
 use mathlib.Core.Path.{◌≡◌, sym, ap, ◌∙◌}
-use mathlib.Core.Logic.{◌⊎◌, inl, inr}
+use mathlib.Core.Logic.{◌⊎◌}
 use Prim.Native.Nat.{ℕ, ◌+◌, ◌-◌, ◌*◌, ◌/◌, ◌%◌, ◌^◌, ◌≤◌, ◌<◌}
-use native.Mathlib.Nat.{sub-add_cancel, sub_self, mod-eq_of_lt, mod-lt, div-eq_of_lt, div-eq_of_lt-le, div-lt_iff_lt-mul, lt_of_not-le}
-use native.Mathlib.Decide.{dec_le}
+use native.Mathlib.Nat.{sub-add_cancel, sub_self, mod-eq_of_lt, mod-lt, div-eq_of_lt, div-eq_of_lt-le, div-lt_iff_lt-mul}
 use native.Mathlib.Omega.{arith}
 use lib.Pow.{pow_pos, pow-add}
 use Rattle.smtlib.specs.Theory.{extract}
@@ -31,20 +30,9 @@ top_high m s w l h =
     let q : s / 2 ^ (m - 1) ≡ 1 = div-eq_of_lt-le (2 ^ (m - 1)) {m = s} (omega arith) (omega arith) in
     top_is m s ∙ ap (λ (k : ℕ). k % 2) q
 
-of_dec : (a b : ℕ) → Dec (a ≤ b) → (a ≤ b) ⊎ (b < a)
-of_dec a b (yes p) = inl p
-of_dec a b (no h) = inr (lt_of_not-le h)
-
-pub le_or_lt : (a b : ℕ) → (a ≤ b) ⊎ (b < a)
-le_or_lt a b = of_dec a b (dec_le a b)
-
 -- a bit is 0 or 1
 pub bit : {x : ℕ} → x < 2 → (x ≡ 0) ⊎ (x ≡ 1)
-bit {x} h = of (le_or_lt 1 x)
-  where
-    of : (1 ≤ x) ⊎ (x < 1) → (x ≡ 0) ⊎ (x ≡ 1)
-    of (inl p) = inr (omega arith)
-    of (inr p) = inl (omega arith)
+bit h = grind arith
 
 -- a bitvector has no bit above the top one
 pub top-div : (m s : ℕ) → 1 ≤ m → s < 2 ^ m → top m s ≡ s / 2 ^ (m - 1)

@@ -1,22 +1,11 @@
 -- SMT-LIB's theory FixedSizeBitVectors, line by line. m is the width; a bitvector is the number that the theory's bv2nat gives, so it is below 2 ^ m.
-use Rattle.std.specs.Prelude.{ℕ, ◌+◌, ◌-◌, ◌*◌, ◌/◌, ◌%◌, ◌^◌, ◌≤◌, ◌<◌, Bool, cond, eqb, ltb}
+use Rattle.std.specs.Prelude.{ℕ, ◌+◌, ◌-◌, ◌*◌, ◌/◌, ◌%◌, ◌^◌, ◌≤◌, Bool, cond, eqb, ltb}
 use Rattle.std.specs.Int.Bits.{bit_xor}
 
 -- a width
 pub record IsWidth (m : ℕ) : Type 0 where
   pub least : 1 ≤ m
   pub most : m ≤ 64
-
--- a bitvector of width m
-pub record IsBv (m s : ℕ) : Type 0 where
-  pub width : IsWidth m
-  pub below : s < 2 ^ m
-
--- two of one width
-pub record AreBv (m s t : ℕ) : Type 0 where
-  pub width : IsWidth m
-  pub left : s < 2 ^ m
-  pub right : t < 2 ^ m
 
 -- nat2bv[m] n: the bitvector of n mod 2 ^ m
 unfoldable pub nat2bv : ℕ → ℕ → ℕ

@@ -14,3 +14,4 @@ pub mod Entry
 pub mod Once
 pub mod Promise
 pub mod Examples
+pub mod Arms

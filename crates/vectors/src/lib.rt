@@ -4,7 +4,6 @@
 #![tactic(auto)]
 
 ghost use Rattle.std.specs.Prelude.{◌≡◌, true, ◌+◌, ◌<◌, ◌≤◌, ◌^◌};
-ghost use Rattle.smtlib.specs.Theory.{IsWidth, IsBv, AreBv};
 ghost use Rattle.smtlib.specs.Logic.{zero_extend};
 ghost use Rattle.vectors.specs.Answers.{plain_of, Right};
 
@@ -20,19 +19,6 @@ struct Case {
     answer: u64,
 }
 
-#[derive(Clone, Copy)]
-enum Parsed {
-    Good(Case),
-    Bad,
-}
-
-// A number, and the place after it.
-#[derive(Clone, Copy)]
-enum Number {
-    Read(u64, usize),
-    Bad,
-}
-
 // What a line is: the heading of a list, or a case.
 #[derive(Clone, Copy)]
 enum Line {
@@ -42,7 +28,7 @@ enum Line {
     Different,
 }
 
-#[derive(Clone, Copy)]
+#[derive(Clone, Copy, Default)]
 pub struct Count {
     pub compared: u64,
     pub different: u64,
@@ -51,7 +37,7 @@ pub struct Count {
 // The line that is being read, and what the lines before it gave.
 #[derive(Clone, Copy)]
 pub struct Replay {
-    // The line's first bytes, and how many it has so far: 81 stands for a line that is longer than the room.
+    // The line's first bytes, and how many it has so far, which may be more. A library has no heap, so the room is fixed.
     pub text: [u8; 80],
     pub used: usize,
     // How many lines have ended.
@@ -59,307 +45,194 @@ pub struct Replay {
     pub in_solver: bool,
     pub original: Count,
     pub solver: Count,
-    // The numbers of the first lines that differ; 0 where there is none.
-    pub shown: [u64; 8],
+    // The numbers of the first lines that differ.
+    pub shown: [Option<u64>; 8],
 }
 
-fn wide(x: u8) -> u64
-    ensures { result ≡ x }
-{
-    x as u64
+// The decimal number that a field is, of digits alone and below 2^64.
+fn number(field: &str) -> Option<u64> {
+    // parse takes a sign
+    if field.starts_with('+') {
+        return None;
+    }
+    field.parse().ok()
 }
 
-// The decimal number at a place, of one digit or more and below 2^64.
-fn read_number(s: &[u8], from: usize) -> Number {
-    let mut at = from;
-    let mut value: u64 = 0;
-    while at < s.len() {
-        let b = s[at];
-        if b < b'0' || b > b'9' {
-            break;
-        }
-        let digit = wide(b - b'0');
-        if value > (0xffff_ffff_ffff_ffff - digit) / 10 {
-            return Number::Bad;
-        }
-        value = value * 10 + digit;
-        at += 1;
+// The five numbers of a case, with a space between two, and nothing else.
+fn parse(line: &[u8]) -> Option<Case> {
+    let mut fields = str::from_utf8(line).ok()?.split(' ');
+    let case = Case {
+        operation: number(fields.next()?)?,
+        width: number(fields.next()?)?,
+        first: number(fields.next()?)?,
+        second: number(fields.next()?)?,
+        answer: number(fields.next()?)?,
+    };
+    if fields.next().is_some() {
+        return None;
     }
-    if at == from {
-        return Number::Bad;
-    }
-    Number::Read(value, at)
-}
-
-// A number with one space after it.
-fn read_field(s: &[u8], from: usize) -> Number {
-    let Number::Read(value, end) = read_number(s, from) else {
-        return Number::Bad;
-    };
-    if end < s.len() {
-        if s[end] == b' ' {
-            return Number::Read(value, end + 1);
-        }
-    }
-    Number::Bad
-}
-
-// The five numbers of a case, and nothing else.
-fn parse(s: &[u8]) -> Parsed {
-    let Number::Read(operation, a) = read_field(s, 0) else {
-        return Parsed::Bad;
-    };
-    let Number::Read(width, b) = read_field(s, a) else {
-        return Parsed::Bad;
-    };
-    let Number::Read(first, c) = read_field(s, b) else {
-        return Parsed::Bad;
-    };
-    let Number::Read(second, d) = read_field(s, c) else {
-        return Parsed::Bad;
-    };
-    let Number::Read(answer, end) = read_number(s, d) else {
-        return Parsed::Bad;
-    };
-    if end != s.len() {
-        return Parsed::Bad;
-    }
-    Parsed::Good(Case {
-        operation,
-        width,
-        first,
-        second,
-        answer,
-    })
+    Some(case)
 }
 
 // Whether v is a bitvector of the width.
+#[tactic(auto, unfolding(smtlib::specs::Theory::all_ones))]
 fn fits(width: Width, v: u64) -> bool
-    requires { IsWidth width.0 }
-    ensures { result ≡ true → v < 2 ^ width.0 }
+    ensures { result ≡ true → v < 2 ^ width.bits }
 {
-    bitvec::of_nat(width, v) == v
+    v <= bitvec::all_ones(width)
 }
 
 // Whether the operation is one from 30 to 48, and its second operand 0 where it takes none.
 fn is_known(operation: u64, second: u64) -> bool
     ensures { result ≡ true → (30 ≤ operation) × (operation ≤ 48) }
 {
-    if operation < 30 {
-        return false;
+    match operation {
+        30 | 45 => second == 0,
+        31..=48 => true,
+        _ => false,
     }
-    if operation > 48 {
-        return false;
-    }
-    if operation == 30 {
-        return second == 0;
-    }
-    if operation == 45 {
-        return second == 0;
-    }
-    true
 }
 
-// Our answer to an operation from 30 to 48; that of a predicate is 0 or 1.
+// Our answer to an operation from 30 to 48, by document 01's number as the lists have it; that of a predicate is 0 or 1.
+#[tactic(auto, unfolding(crate::specs::Answers::plain_of))]
 fn answer(operation: u64, width: Width, first: u64, second: u64) -> u64
     requires le_operation { (30 ≤ operation) × (operation ≤ 48) }
-    requires are_bv { AreBv width.0 first second }
-    ensures { result ≡ plain_of operation width.0 first second }
+    requires left { first < 2 ^ width.bits }
+    requires right { second < 2 ^ width.bits }
+    ensures { result ≡ plain_of operation width.bits first second }
 {
-    if operation == 30 {
-        return bitvec::neg(width, first);
+    match operation {
+        30 => bitvec::neg(width, first),
+        31..=40 => bitvec_closures::bvapp(operation, width, first, second),
+        41..=44 => u64::from(bitvec_closures::bvcmp(operation, width, first, second)),
+        45 => u64::from(bitvec_closures::nego(width, first)),
+        _ => u64::from(bitvec_closures::bvso(operation, width, first, second)),
     }
-    if operation <= 40 {
-        return bitvec_closures::bvapp(operation, width, first, second);
-    }
-    if operation <= 44 {
-        return bitvec_closures::bvcmp(operation, width, first, second) as u64;
-    }
-    if operation == 45 {
-        return bitvec_closures::nego(width, first) as u64;
-    }
-    bitvec_closures::bvso(operation, width, first, second) as u64
 }
 
 // Whether zero_extend by n is in range, and has our answer.
 fn extends(width: Width, n: u64, v: u64, answer: u64) -> bool
-    requires { IsBv width.0 v }
-    ensures { result ≡ true → (width.0 + n ≤ 64) × (answer ≡ zero_extend width.0 n v) }
+    requires { v < 2 ^ width.bits }
+    ensures { result ≡ true → (width.bits + n ≤ 64) × (answer ≡ zero_extend width.bits n v) }
 {
-    if n > 64 - width.0 {
-        return false;
-    }
-    bitvec::zero_extend(width, n, v) == answer
+    n <= 64 - width.bits && bitvec::zero_extend(width, n, v) == answer
 }
 
 // Whether the case is one of the operations on operands of its width, and has our answer.
 fn agrees(c: Case) -> bool
     ensures { result ≡ true → Right c.operation c.width c.first c.second c.answer }
 {
-    if c.width < 1 {
+    let Ok(width) = Width::try_from(c.width) else {
         return false;
-    }
-    if c.width > 64 {
-        return false;
-    }
-    let width = Width(c.width);
+    };
     if !fits(width, c.first) {
         return false;
     }
     if c.operation == 49 {
         return extends(width, c.second, c.first, c.answer);
     }
-    if !fits(width, c.second) {
-        return false;
-    }
-    if !is_known(c.operation, c.second) {
-        return false;
-    }
-    answer(c.operation, width, c.first, c.second) == c.answer
+    fits(width, c.second)
+        && is_known(c.operation, c.second)
+        && answer(c.operation, width, c.first, c.second) == c.answer
 }
 
-fn judge(s: &[u8]) -> Line {
-    if check::same(s, b"original") {
-        return Line::Original;
+fn judge(line: &[u8]) -> Line {
+    match line {
+        b"original" => Line::Original,
+        b"solver" => Line::Solver,
+        _ => match parse(line) {
+            Some(c) if agrees(c) => Line::Same,
+            _ => Line::Different,
+        },
     }
-    if check::same(s, b"solver") {
-        return Line::Solver;
+}
+
+impl Count {
+    fn add(&mut self, differs: bool) {
+        self.compared = self.compared.saturating_add(1);
+        self.different = self.different.saturating_add(u64::from(differs));
     }
-    match parse(s) {
-        Parsed::Good(c) => {
-            if agrees(c) {
-                Line::Same
-            } else {
-                Line::Different
+}
+
+impl Replay {
+    // A case more in the list that is being read.
+    fn compare(&mut self, differs: bool) {
+        if self.in_solver {
+            self.solver.add(differs);
+        } else {
+            self.original.add(differs);
+        }
+    }
+
+    // The number of a line that differs goes to the first free place, if there is one.
+    fn show(&mut self) {
+        if let Some(free) = self.shown.iter().position(Option::is_none) {
+            self.shown[free] = Some(self.line);
+        }
+    }
+
+    // What the line is: a longer one than the room is no case.
+    fn judged(&self) -> Line {
+        match self.text.get(..self.used) {
+            Some(line) => judge(line),
+            None => Line::Different,
+        }
+    }
+
+    // The line ends here.
+    fn end_line(&mut self) {
+        let line = self.judged();
+        self.used = 0;
+        self.line = self.line.saturating_add(1);
+        match line {
+            Line::Original => self.in_solver = false,
+            Line::Solver => self.in_solver = true,
+            Line::Same => self.compare(false),
+            Line::Different => {
+                self.show();
+                self.compare(true);
             }
         }
-        Parsed::Bad => Line::Different,
     }
-}
 
-fn one_more(n: u64) -> u64 {
-    if n < 0xffff_ffff_ffff_ffff { n + 1 } else { n }
-}
-
-fn counted(c: Count, differs: bool) -> Count {
-    Count {
-        compared: one_more(c.compared),
-        different: if differs {
-            one_more(c.different)
-        } else {
-            c.different
-        },
+    // One byte more.
+    fn push(&mut self, b: u8) {
+        if b == b'\n' {
+            self.end_line();
+            return;
+        }
+        if let Some(place) = self.text.get_mut(self.used) {
+            *place = b;
+        }
+        self.used = self.used.saturating_add(1);
     }
 }
 
 // Before the first byte.
 pub fn start() -> Replay {
     Replay {
-        text: [0u8; 80],
+        text: [0; 80],
         used: 0,
         line: 0,
         in_solver: false,
-        original: Count {
-            compared: 0,
-            different: 0,
-        },
-        solver: Count {
-            compared: 0,
-            different: 0,
-        },
-        shown: [0u64; 8],
+        original: Count::default(),
+        solver: Count::default(),
+        shown: [None; 8],
     }
-}
-
-// A case more in the list that is being read.
-fn compared(r: Replay, differs: bool) -> Replay {
-    let mut next = r;
-    if next.in_solver {
-        next.solver = counted(r.solver, differs);
-    } else {
-        next.original = counted(r.original, differs);
-    }
-    next
-}
-
-// The number of a line that differs goes to the first free place, if there is one.
-fn shown_after(shown: [u64; 8], line: u64) -> [u64; 8] {
-    let mut next = shown;
-    let mut i: usize = 0;
-    while i < 8 {
-        if next[i] == 0 {
-            next[i] = line;
-            return next;
-        }
-        i += 1;
-    }
-    next
-}
-
-// What the bytes of a line are, of which there may be more than the room has.
-fn judge_text(text: [u8; 80], used: usize) -> Line {
-    if used > 80 {
-        return Line::Different;
-    }
-    judge(&text[..used])
-}
-
-// The line ends here.
-fn end_line(r: Replay) -> Replay {
-    let mut next = r;
-    next.used = 0;
-    next.line = one_more(r.line);
-    let text = r.text;
-    match judge_text(text, r.used) {
-        Line::Original => {
-            next.in_solver = false;
-            next
-        }
-        Line::Solver => {
-            next.in_solver = true;
-            next
-        }
-        Line::Same => compared(next, false),
-        Line::Different => {
-            let before = r.shown;
-            let shown = shown_after(before, next.line);
-            next.shown = shown;
-            compared(next, true)
-        }
-    }
-}
-
-// One byte more.
-fn with_byte(r: Replay, b: u8) -> Replay {
-    if b == b'\n' {
-        return end_line(r);
-    }
-    let mut next = r;
-    let at = r.used;
-    if at < 80 {
-        next.text[at] = b;
-        next.used = at + 1;
-    } else {
-        next.used = 81;
-    }
-    next
 }
 
 // The next bytes.
-pub fn feed(r: Replay, s: &[u8]) -> Replay {
-    let mut next = r;
-    let mut i: usize = 0;
-    while i < s.len() {
-        next = with_byte(next, s[i]);
-        i += 1;
+pub fn feed(mut r: Replay, s: &[u8]) -> Replay {
+    for b in s {
+        r.push(*b);
     }
-    next
+    r
 }
 
 // After the last byte: a line without a line end counts too.
-pub fn finish(r: Replay) -> Replay {
-    if r.used == 0 {
-        return r;
+pub fn finish(mut r: Replay) -> Replay {
+    if r.used > 0 {
+        r.end_line();
     }
-    end_line(r)
+    r
 }

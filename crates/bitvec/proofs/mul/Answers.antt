@@ -8,4 +8,4 @@ unfolding bvmul
 returns c =
     let p = c.product-p in
     c.of_nat.ensures
-    ∙ low_word c.args.width.0 p.result.high p.result.low c.args.lhs c.args.rhs c.requires.most p.ensures
+    ∙ low_word c.args.width.bits p.result.high p.result.low c.args.lhs c.args.rhs c.args.width.is_width.most p.ensures

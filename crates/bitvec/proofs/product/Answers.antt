@@ -35,14 +35,8 @@ module _ (u v : ℕ) (hu : u < 2 ^ 64) (hv : v < 2 ^ 64) where
   w1-fits : Fits w64 (w1 u v)
   w1-fits = omega (arith, lh, mask_lt (t u v) 32)
 
-  high_part : Fits w64 (hi u * hi v + hi (t u v))
-  high_part = omega (arith, hh, t-fits)
-
   high_fits : Fits w64 (hi u * hi v + hi (t u v) + hi (w1 u v))
   high_fits = omega (arith, hh, t-fits, w1-fits)
-
-  low_fits : Fits w64 (w1 u v * 4294967296 % 2 ^ 64 + lo (lo u * lo v))
-  low_fits = omega (arith, mask_lt (lo u * lo v) 32)
 
 -- with masks as remainders the numbers are the law's
 
@@ -52,32 +46,8 @@ whole u v =
     ∙ columns (u % 4294967296) (hi u) (v % 4294967296) (hi v)
     ∙ (λ i. split u 32 i * split v 32 i)
 
-pub overflow_mul-w0 : goal.overflow_mul-w0
-overflow_mul-w0 c = omega (arith, ll c.args.u c.args.v c.ranges.u.fits c.ranges.v.fits)
-
-pub overflow_mul-t : goal.overflow_mul-t
-overflow_mul-t c = omega (arith, hl c.args.u c.args.v c.ranges.u.fits c.ranges.v.fits)
-
-pub overflow_add-t : goal.overflow_add-t
-overflow_add-t c = t-fits c.args.u c.args.v c.ranges.u.fits c.ranges.v.fits
-
-pub overflow_mul-w1 : goal.overflow_mul-w1
-overflow_mul-w1 c = omega (arith, lh c.args.u c.args.v c.ranges.u.fits c.ranges.v.fits)
-
-pub overflow_add-w1 : goal.overflow_add-w1
-overflow_add-w1 c = w1-fits c.args.u c.args.v c.ranges.u.fits c.ranges.v.fits
-
-pub overflow_mul-result : goal.overflow_mul-result
-overflow_mul-result c = omega (arith, hh c.args.u c.args.v c.ranges.u.fits c.ranges.v.fits)
-
-pub overflow_add-result : goal.overflow_add-result
-overflow_add-result c = high_part c.args.u c.args.v c.ranges.u.fits c.ranges.v.fits
-
 pub overflow_add-result-2 : goal.overflow_add-result-2
 overflow_add-result-2 c = high_fits c.args.u c.args.v c.ranges.u.fits c.ranges.v.fits
-
-pub overflow_add-result-3 : goal.overflow_add-result-3
-overflow_add-result-3 c = low_fits c.args.u c.args.v c.ranges.u.fits c.ranges.v.fits
 
 pub returns : goal.returns
 returns c = whole c.args.u c.args.v

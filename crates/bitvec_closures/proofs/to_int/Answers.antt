@@ -1,12 +1,16 @@
-use Rattle.std.proofs.Common.{sym, refl, ◌∙◌}
-use Rattle.bitvec_closures.proofs.Whole.{int_high, int_low}
+use Rattle.std.proofs.Common.{sym, ◌∙◌, arith}
+use Rattle.std.proofs.lemmas.Int.{ints}
+use Rattle.bitvec_closures.proofs.Signed.{negative, positive}
 use Rattle.bitvec_closures.proofs.to_int.Goals as goal
 
-pub returns-then-msb : goal.returns-then-msb
-returns-then-msb c =
-    let w = c.args.width.0 in
-    (refl, int_high w c.args.v c.neg.result c.requires.width.least c.requires.below (sym c.msb.ensures ∙ c.if-msb.true) c.neg.ensures)
+pub returns-then-msb-clause-bound : goal.returns-then-msb-clause-bound
+returns-then-msb-clause-bound c =
+    let a = c.args in
+    let e = negative a.width.bits a.v c.neg.result a.width.is_width c.requires (sym c.msb.ensures ∙ c.if-msb.true) c.neg.ensures in
+    omega (arith, ints)
 
-pub returns-else-msb : goal.returns-else-msb
-returns-else-msb c =
-    (refl, int_low c.args.width.0 c.args.v (sym c.msb.ensures ∙ c.if-msb.false))
+pub returns-else-msb-clause-bound : goal.returns-else-msb-clause-bound
+returns-else-msb-clause-bound c =
+    let a = c.args in
+    let e = positive a.width.bits a.v a.width.is_width c.requires (sym c.msb.ensures ∙ c.if-msb.false) in
+    omega (arith, ints)

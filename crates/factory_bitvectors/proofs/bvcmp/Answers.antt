@@ -2,21 +2,21 @@ use mathlib.Core.Path.{sym, ◌∙◌}
 use Rattle.nodes.proofs.Steps.{builds_here, builds_as}
 use Rattle.factory.specs.Bitvectors.{bvcmp_t}
 use Rattle.factory.proofs.Calls.{ready_wf}
-use Rattle.factory.proofs.Operands.{two_bv}
+use Rattle.factory.proofs.Operands.{two_bv, literals_some, literals_none}
 use Rattle.factory_bitvectors.proofs.bvcmp.Goals as goal
 
 pub bvcmp-requires : goal.bvcmp-requires
 bvcmp-requires c =
-    rw (c.width_of-width.ensures, c.par_of-lhs.ensures, c.par_of-rhs.ensures)
-    (two_bv (ready_wf c.requires.ready) c.args.t.0 c.args.u.0 c.requires.ready.fit.0 c.requires.ready.fit.1 (sym c.both_bv.ensures ∙ c.if-both_bv.true))
+    let h = literals_some _ _ _ _ _ (sym c.literals.ensures ∙ c.in-Some.is) in
+    let p = two_bv (ready_wf c.requires.ready) c.args.t.0 c.args.u.0 c.requires.ready.fit.1 h.0 in
+    rw (c.width_of-width.ensures, ← h.1, ← h.2) (record { left = p.0; right = p.1 })
 
-pub returns-then-both_bv : goal.returns-then-both_bv
+pub returns-in-Some : goal.returns-in-Some
 unfolding bvcmp_t
-returns-then-both_bv c =
-    builds_as (builds_here c.args.arena.now c.requires.ready.arena c.bool_at.result.0)
-    (rw (sym c.both_bv.ensures ∙ c.if-both_bv.true, c.bool_at.ensures, c.bvcmp.ensures, c.width_of-width.ensures, c.par_of-lhs.ensures, c.par_of-rhs.ensures))
+returns-in-Some c =
+    let h = literals_some _ _ _ _ _ (sym c.literals.ensures ∙ c.in-Some.is) in
+    builds_as (builds_here c.args.arena.now c.requires.ready.arena c.bool_at.result.0) (rw (h.0, h.1, h.2, c.bool_at.ensures, c.bvcmp.ensures, c.width_of-width.ensures))
 
 pub returns : goal.returns
 unfolding bvcmp_t
-returns c =
-    builds_as c.app2.ensures (rw (sym c.both_bv.ensures ∙ c.if-both_bv.false))
+returns c = builds_as c.app2.ensures (rw (literals_none _ _ _ (sym c.literals.ensures ∙ c.in_default.is)))

@@ -8,7 +8,7 @@ use Rattle.factory_bitvectors.proofs.bvneg.Goals as goal
 
 pub neg-v-requires : goal.neg-v-requires
 neg-v-requires c =
-    rw (c.width_of-width.ensures, c.par_of.ensures) (one_bv (ready_wf c.requires) c.args.t.0 c.requires.fit (sym c.kind_of-kind.ensures ∙ c.if-kind-eq17.true))
+    rw (c.width_of-width.ensures, c.par_of.ensures) (one_bv (ready_wf c.requires) c.args.t.0 (sym c.kind_of-kind.ensures ∙ c.if-kind-eq17.true))
 
 pub returns-then-kind-eq17 : goal.returns-then-kind-eq17
 unfolding bvneg_t

@@ -8,7 +8,7 @@ use Rattle.factory_bitvectors.proofs.bvnego.Goals as goal
 
 pub nego-requires : goal.nego-requires
 nego-requires c =
-    rw (c.width_of-width.ensures, c.par_of-v.ensures) (one_bv (ready_wf c.requires) c.args.t.0 c.requires.fit (sym c.kind_of.ensures ∙ c.if-kind_of-eq17.true))
+    rw (c.width_of-width.ensures, c.par_of-v.ensures) (one_bv (ready_wf c.requires) c.args.t.0 (sym c.kind_of.ensures ∙ c.if-kind_of-eq17.true))
 
 pub returns-then-kind_of-eq17 : goal.returns-then-kind_of-eq17
 unfolding bvnego_t

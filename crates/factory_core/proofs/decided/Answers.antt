@@ -1,12 +1,12 @@
-use borrow.Author.Tests.{eq-eqb, ne_eqb}
+use mathlib.Core.Path.{sym, ◌∙◌}
 use Rattle.factory_core.proofs.decided.Goals as goal
 
-pub returns-then-t-other : goal.returns-then-t-other
-returns-then-t-other c = rw (eq-eqb _ _ c.if-t-other.true)
+pub returns-then-eq : goal.returns-then-eq
+returns-then-eq c = rw (sym c.eq.ensures ∙ c.if-eq.true)
 
-pub returns-then-u-other : goal.returns-then-u-other
-returns-then-u-other c = rw (ne_eqb _ _ c.if-t-other.false, eq-eqb _ _ c.if-u-other.true)
+pub returns-then-eq-2 : goal.returns-then-eq-2
+returns-then-eq-2 c = rw (sym c.eq.ensures ∙ c.if-eq.false, sym c.eq-2.ensures ∙ c.if-eq-2.true)
 
 pub returns : goal.returns
 returns c =
-    rw (ne_eqb _ _ c.if-t-other.false, ne_eqb _ _ c.if-u-other.false) c.opposites.ensures
+    rw (sym c.eq.ensures ∙ c.if-eq.false, sym c.eq-2.ensures ∙ c.if-eq-2.false) c.opposites.ensures

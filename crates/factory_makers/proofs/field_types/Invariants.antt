@@ -1,4 +1,4 @@
-use Prim.Native.Nat.{◌≤◌, ◌%◌, ◌-◌}
+use Prim.Native.Nat.{◌*◌}
 use lib.ListN.{length, drop, take}
 use mathlib.Core.Bool.{true}
 use mathlib.Core.List.{◌++◌}
@@ -11,8 +11,5 @@ use Rattle.factory_makers.proofs.field_types.Given as goal
 
 abbrev pub invariant-loop-i : goal.invariant-loop-i
 invariant-loop-i l =
-    (l.i ≤ length l.run) × (l.i % 2 ≡ 0) × (length l.types ≡ length l.initial.types) × (all (is_term (nodes_of l.arena)) (odds (drop l.i l.run)) ≡ true)
-    × (field_types (nodes_of l.arena) l.run ≡ take l.i l.types ++ field_types (nodes_of l.arena) (drop l.i l.run)) × (drop (length l.run) l.types ≡ drop (length l.run) l.initial.types)
-
-abbrev pub decreases-loop-i : goal.decreases-loop-i
-decreases-loop-i l = length l.run - l.i
+    (length l.types ≡ length l.initial.types) × (all (is_term (nodes_of l.arena)) (odds (drop (2 * l.i) l.run)) ≡ true)
+    × (field_types (nodes_of l.arena) l.run ≡ take (2 * l.i) l.types ++ field_types (nodes_of l.arena) (drop (2 * l.i) l.run)) × (drop (length l.run) l.types ≡ drop (length l.run) l.initial.types)

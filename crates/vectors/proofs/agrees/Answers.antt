@@ -1,62 +1,41 @@
 -- It says true only after every test, of which the last is of the answer.
-use borrow.Author.Rules.{rules}
-use borrow.Author.Tests.{eqb-true}
+use borrow.Author.Tests.{eqb-true, eq-eqb, ne_eqb}
 use mathlib.Core.Path.{sym, ◌∙◌}
 use native.Mathlib.Omega.{arith}
-use Rattle.vectors.proofs.Laws.{never, at_extend, at_plain}
+use Rattle.vectors.specs.Answers.{answer_of}
 use Rattle.vectors.proofs.agrees.Goals as goal
-
-pub returns-then-c-lt1 : goal.returns-then-c-lt1
-returns-then-c-lt1 c = never
-
-pub returns-then-c-gt64 : goal.returns-then-c-gt64
-returns-then-c-gt64 c = never
-
-pub returns-then-not-fits : goal.returns-then-not-fits
-returns-then-not-fits c = never
-
-pub extends-requires : goal.extends-requires
-extends-requires c =
-    record {
-      width = search rules;
-      below = c.fits.ensures c.if-not-fits.false;
-    }
+use Rattle.vectors.proofs.agrees.Goals.{then-fits, else-fits}
 
 pub returns-then-c-eq49 : goal.returns-then-c-eq49
+unfolding answer_of
 returns-then-c-eq49 c h =
+    let e = c.in-Ok.ensures in
+    let r = c.extends.ensures h in
+    rw (← e)
     record {
-      least = search rules;
-      most = search rules;
-      width = search rules;
-      first = c.fits.ensures c.if-not-fits.false;
-      second = ((λ e. (c.extends.ensures h).0), (λ other. absurd (other (omega arith))));
-      answer = (c.extends.ensures h).1 ∙ sym (at_extend _ _ _ _ (omega arith));
-    }
-
-pub returns-then-not-fits-2 : goal.returns-then-not-fits-2
-returns-then-not-fits-2 c = never
-
-pub returns-then-not-is_known : goal.returns-then-not-is_known
-returns-then-not-is_known c = never
-
-pub answer-requires : goal.answer-requires
-answer-requires c = record {
-  le_operation = c.is_known.ensures c.if-not-is_known.false;
-  are_bv = record {
-    width = search rules;
-    left = c.fits.ensures c.if-not-fits.false;
-    right = c.fits-2.ensures c.if-not-fits-2.false;
-  };
-}
-
-pub returns : goal.returns
-returns c h =
-    let range = c.is_known.ensures c.if-not-is_known.false in
-    record {
-      least = range.0;
+      least = omega arith;
       most = omega arith;
-      width = search rules;
+      width = c.in-Ok.width.is_width;
       first = c.fits.ensures c.if-not-fits.false;
-      second = ((λ e. absurd (omega arith)), (λ other. c.fits-2.ensures c.if-not-fits-2.false));
-      answer = sym (eqb-true _ _ h) ∙ c.answer.ensures ∙ sym (at_plain _ _ _ _ range.1);
+      second = ((λ _. r.0), (λ other. absurd (other c.if-c-eq49.true)));
+      answer = rw (eq-eqb _ 49 c.if-c-eq49.true) r.1;
     }
+
+pub returns-then-is_known : goal.returns-then-is_known
+unfolding answer_of
+returns-then-is_known c h =
+    let e = c.in-Ok.ensures in
+    elim c.if-fits.branch [
+      | then-fits w ↦
+          let range = w.is_known.ensures (sym w.value-is ∙ c.if-is_known.true) in
+          rw (← e)
+          record {
+            least = range.0;
+            most = omega arith;
+            width = c.in-Ok.width.is_width;
+            first = c.fits.ensures c.if-not-fits.false;
+            second = ((λ is_49. absurd (c.if-c-eq49.false is_49)), (λ _. c.fits-2.ensures w.if-fits.true));
+            answer = rw (ne_eqb _ 49 c.if-c-eq49.false) (sym (eqb-true _ _ h) ∙ c.answer.ensures);
+          }
+      | else-fits w ↦ cc
+    ]

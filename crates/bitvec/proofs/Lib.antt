@@ -1,0 +1,2 @@
+-- The laws by which the functions' goals close.
+pub mod Laws

@@ -1,5 +1,0 @@
-use Rattle.smtlib.proofs.Word.{half_fits}
-use Rattle.bitvec.proofs.int_min.Goals as goal
-
-pub returns : goal.returns
-returns c = half_fits c.args.width.0 c.requires.most

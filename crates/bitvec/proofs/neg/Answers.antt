@@ -1,6 +1,0 @@
-use Rattle.smtlib.proofs.Negation.{neg_not}
-use Rattle.bitvec.proofs.neg.Goals as goal
-
-pub returns : goal.returns
-returns c =
-    cc (neg_not c.args.width.0 c.args.v c.requires.below)

@@ -1,7 +1,0 @@
-use Rattle.std.proofs.Common.{◌∙◌}
-use Rattle.smtlib.proofs.Division.{extended}
-use Rattle.bitvec.proofs.zero_extend.Goals as goal
-
-pub returns : goal.returns
-returns c =
-    c.of_nat.ensures ∙ extended c.args.width.0 c.args.n c.args.v c.requires.0.below

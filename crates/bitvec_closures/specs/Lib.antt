@@ -1,2 +1,0 @@
--- Whole numbers as the code has them.
-pub mod Int
