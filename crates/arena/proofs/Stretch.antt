@@ -9,14 +9,6 @@ use lib.Seq.{length-take-le, get_or-take, get_or-drop, sets-eq, drop-drop, take_
 use Rattle.arena.specs.Nodes.{node, header}
 use Rattle.arena.specs.Cells.{cells_of}
 
--- the n cells from an index on
-module _ (c : List ℕ) (from n : ℕ) (h : from + n ≤ length c) where
-  pub stretch_length : length (take n (drop from c)) ≡ n
-  stretch_length = length-take-le n (drop from c) (simp length-drop (omega arith))
-
-  pub stretch_at : (i : ℕ) → i < n → get_or (take n (drop from c)) i 0 ≡ get_or c (from + i) 0
-  stretch_at i l = rw (get_or-take, get_or-drop)
-
 -- ---- a header and its members, written at m
 
 pub stored : (c : List ℕ) (m k t p : ℕ) (ms : List ℕ) → m + (header + length ms) ≤ length c

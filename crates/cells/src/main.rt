@@ -147,7 +147,7 @@ fn walk(
 fn run(rt: &impl Print, bytes: &[u8], cells: &mut [u64], results: &mut [u64]) -> io::Result<()>
     requires { length cells.old ≡ 65536 }
 {
-    let mark = arena::cells::fresh(cells) as usize;
+    let mark = arena::cells::fresh(cells).unwrap();
     let end = walk(rt, bytes, cells, results, mark)?;
     say_cells(rt, cells, end)
 }

@@ -47,9 +47,6 @@ module _ {c : List ℕ} {q : ℕ} {f : List ℕ} (B : Below c q) (S : Starts (us
 
   -- the members, n of them
   module _ (n : ℕ) (e : n ≡ length (mem_at (used c q) p)) where
-    pub no_members : n ≡ 0 → [] ≡ mem_at (used c q) p
-    no_members z = sym (mem0 (mem_at (used c q) p) (sym e ∙ z))
-
     module _ (h : n ≡ 0 → ⊥) where
       stands : 1 ≤ kind_at (used c q) p
       stands = nonzero (kind_at (used c q) p) (λ z. h (e ∙ ap (λ (m : Node). length m.mem) (nowhere-at (wf B).chain p z)))
