@@ -70,6 +70,7 @@ fn nodes_follow(cells: &[u64], mark: usize, starts: &mut [u8]) -> bool
     ensures { result ≡ formed cells.now mark }
 {
     let mut q: usize = 12;
+    // the next node's place follows from this one's count, as in is_new
     while q < mark {
         if mark - q < 4 {
             return false;
