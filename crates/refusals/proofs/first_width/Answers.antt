@@ -10,6 +10,3 @@ type_of-ty-requires c =
 pub par_of-requires : goal.par_of-requires
 par_of-requires c =
     rw c.type_of-ty.ensures (type_pos c.args.nodes.now.below _ (all_get _ _ c.requires.each 0 c.requires.many))
-
-pub returns : goal.returns
-returns c = rw (← c.type_of-ty.ensures) c.par_of.ensures

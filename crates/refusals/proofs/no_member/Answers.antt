@@ -1,10 +1,5 @@
-use Rattle.arena.proofs.Chain.{term_pos}
 use Rattle.table.proofs.Suits.{type_pos}
 use Rattle.refusals.proofs.no_member.Goals as goal
-
-pub type_of-set-requires : goal.type_of-set-requires
-type_of-set-requires c =
-    term_pos _ _ c.requires.y_value
 
 pub arg_of-elem-requires : goal.arg_of-elem-requires
 arg_of-elem-requires c =
@@ -13,6 +8,3 @@ arg_of-elem-requires c =
 pub kind_of-requires : goal.kind_of-requires
 kind_of-requires c =
     rw c.type_of-set.ensures (type_pos c.args.nodes.now.below _ c.requires.y_value)
-
-pub returns : goal.returns
-returns c = cc

@@ -6,7 +6,7 @@ use Rattle.arena.specs.View.{nodes_of}
 use Rattle.arena.proofs.Runs.{all_get}
 use Rattle.arena.proofs.Chain.{term_pos}
 use Rattle.table.specs.Table.{rest, not_of}
-use Rattle.table.proofs.Suits.{rest_cut, terms-rest, kind_differs, rest_differs, type_pos}
+use Rattle.table.proofs.Suits.{rest_cut, terms-rest, rest_differs, type_pos}
 use Rattle.table.specs.Forms.{misfit}
 use Rattle.table.specs.declared.Named.TheVariants as named
 use Rattle.refusals.proofs.not_alike.Goals as goal
@@ -18,10 +18,6 @@ type_of-ty-requires c =
 pub kind_of-requires : goal.kind_of-requires
 kind_of-requires c =
     rw c.type_of-ty.ensures (type_pos c.args.nodes.now.below _ (all_get _ _ c.requires.each 0 c.requires.many))
-
-pub returns-then-kind_of-kind : goal.returns-then-kind_of-kind
-returns-then-kind_of-kind c =
-    kind_differs _ _ c.args.xs.now (λ z. c.if-kind_of-kind.true (c.kind_of.ensures ∙ ap (kind_at (nodes_of c.args.nodes.now)) c.type_of-ty.ensures ∙ z))
 
 pub any_misfits-requires : goal.any_misfits-requires
 any_misfits-requires c =

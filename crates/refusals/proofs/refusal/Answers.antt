@@ -8,14 +8,6 @@ use Rattle.refusals.proofs.refusal.Goals as goal
 pub returns-then-not-is_known : goal.returns-then-not-is_known
 returns-then-not-is_known c = unknown _ _ c.is_known.ensures (ap not c.if-not-is_known.true)
 
-pub form_of-form-requires : goal.form_of-form-requires
-form_of-form-requires c =
-    known-op (nodes_of c.args.nodes.now) (instr c.args.op c.args.par c.args.count c.args.operands.now) c.is_known.ensures (ap not c.if-not-is_known.false)
-
-pub takes_parameter-requires : goal.takes_parameter-requires
-takes_parameter-requires c =
-    known-op (nodes_of c.args.nodes.now) (instr c.args.op c.args.par c.args.count c.args.operands.now) c.is_known.ensures (ap not c.if-not-is_known.false)
-
 pub returns-then-count_ok-takes_parameter : goal.returns-then-count_ok-takes_parameter
 returns-then-count_ok-takes_parameter c = at_2 _ _ c.is_known.ensures (ap not c.if-not-is_known.false) c.form_of-form.ensures c.count_ok.ensures c.takes_parameter.ensures c.if-count_ok-takes_parameter.true
 

@@ -3,7 +3,7 @@ use mathlib.Core.Bool.{◌&&◌}
 use Rattle.arena.specs.Lists.{all}
 use Rattle.arena.specs.View.{nodes_of}
 use Rattle.arena.specs.WellFormed.{is_term}
-use Rattle.table.proofs.Suits.{rest_cut, sorts_few, sorts-terms, sorts-one, sorts-typed}
+use Rattle.table.proofs.Suits.{rest_cut, sorts_few, sorts-terms, sorts-typed}
 use Rattle.refusals.proofs.sorts_ok.Goals as goal
 
 pub returns-then-xs-least : goal.returns-then-xs-least
@@ -13,10 +13,6 @@ returns-then-xs-least c =
 pub returns-then-not-typed : goal.returns-then-not-typed
 returns-then-not-typed c =
     c.all_terms.ensures ∙ sorts-terms _ c.args.typed c.args.terms _ _ c.least.ensures.value c.if-not-typed.true c.if-xs-least.false
-
-pub bounds-xs-0 : goal.bounds-xs-0
-bounds-xs-0 c =
-    sorts-one (nodes_of c.args.nodes.now) c.args.typed c.args.terms _ c.args.xs.now c.least.ensures.value c.if-not-typed.false c.if-xs-least.false
 
 pub returns-then-is_type : goal.returns-then-is_type
 returns-then-is_type c =

@@ -1,12 +1,8 @@
-use mathlib.Core.Path.{sym, ◌∙◌}
 use Rattle.table.proofs.Order.{at_5, at_6, at_7, at_8, accepted}
 use Rattle.refusals.proofs.Suited.refusal.Goals as goal
 
 pub returns-then-wrong_type : goal.returns-then-wrong_type
 returns-then-wrong_type c = at_5 _ _ _ _ c.wrong_type.ensures c.if-wrong_type.true
-
-pub wrong_width-requires : goal.wrong_width-requires
-wrong_width-requires c = sym c.wrong_type.ensures ∙ c.if-wrong_type.false
 
 pub returns-then-wrong_width : goal.returns-then-wrong_width
 returns-then-wrong_width c = at_6 _ _ _ _ c.wrong_type.ensures c.if-wrong_type.false c.wrong_width.ensures c.if-wrong_width.true
