@@ -3,11 +3,9 @@ use Rattle.std.specs.Prelude.{Option, Some, None, IsSome, unwrap_or}
 use mathlib.Core.Path.{◌≡◌, refl, sym, ap, ap₂, ◌∙◌, subst}
 use Prim.Native.Nat.{ℕ, suc, ◌+◌, ◌-◌, ◌≤◌, ◌<◌}
 use native.Mathlib.Omega.{arith}
-use native.Mathlib.Numerals.{add-one}
 use mathlib.Core.Bool.{true, false}
-use mathlib.Core.List.{List, [], ◌∷◌, ◌++◌, append_assoc}
-use lib.ListN.{length, take, set, replicate, replicate-append-replicate}
-use lib.Seq.{take-suc-set, take_all}
+use mathlib.Core.List.{List, ◌++◌}
+use lib.ListN.{length, take, set, replicate}
 use borrow.Author.Tests.{le-leb, lt-leb}
 use Rattle.arena.specs.Lists.{every, within}
 use Rattle.arena.specs.Nodes.{mark, fresh, Out}

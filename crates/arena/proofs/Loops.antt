@@ -1,17 +1,14 @@
 -- One turn of a loop over a run of numbers: what the rest of the run says, at i and after it.
-use mathlib.Core.Path.{◌≡◌, refl, sym, ap, ap₂, ◌∙◌}
+use mathlib.Core.Path.{◌≡◌, refl, ap, ◌∙◌}
 use Prim.Native.Nat.{ℕ, suc, ◌+◌, ◌≤◌, ◌<◌}
 use native.Mathlib.Omega.{arith}
 use mathlib.Core.Bool.{Bool, true, false, ◌&&◌}
-use mathlib.Core.Option.{none, some}
 use mathlib.Core.List.{List, [], ◌∷◌}
 use lib.ListN.{length, drop, get_or, length-drop, drop_of_length-le}
 use lib.Seq.{drop-cons}
 use lib.Pointwise.{pointwise}
-use lib.Dec.{eqb, leb}
-use borrow.Author.Tests.{eq-eqb, ne_eqb, leb-true, leb-false, lt-ltb, le-ltb}
-use Rattle.arena.specs.Lists.{all, any, same_list, evens, odds, field, rising}
-use Rattle.arena.specs.Nodes.{Nodes, type_at, field_types}
+use lib.Dec.{eqb}
+use Rattle.arena.specs.Lists.{all, any, same_list}
 
 pub two : (l : List ℕ) (i : ℕ) → i + 1 < length l → drop i l ≡ get_or l i 0 ∷ get_or l (i + 1) 0 ∷ drop (i + 2) l
 two l i h =

@@ -1,11 +1,11 @@
 -- A stretch of cells, and a node written into them.
 use mathlib.Core.Path.{◌≡◌, sym, ap, ◌∙◌}
-use Prim.Native.Nat.{ℕ, suc, ◌+◌, ◌≤◌, ◌<◌}
+use Prim.Native.Nat.{ℕ, suc, ◌+◌, ◌≤◌}
 use native.Mathlib.Nat.{add_assoc}
 use native.Mathlib.Omega.{arith}
 use mathlib.Core.List.{List, [], ◌∷◌, ◌++◌, append_assoc}
-use lib.ListN.{length, get_or, take, drop, set, length-append, length-drop}
-use lib.Seq.{length-take-le, get_or-take, get_or-drop, sets-eq, drop-drop, take_at, drop_at, take-length, paste}
+use lib.ListN.{length, take, drop, set, length-append}
+use lib.Seq.{length-take-le, sets-eq, drop-drop, take_at, drop_at, take-length, paste}
 use Rattle.arena.specs.Nodes.{node, header}
 use Rattle.arena.specs.Cells.{cells_of}
 
