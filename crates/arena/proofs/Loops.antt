@@ -69,3 +69,14 @@ same_list_is [] [] = refl
 same_list_is [] (y ∷ ys) = refl
 same_list_is (x ∷ xs) [] = refl
 same_list_is (x ∷ xs) (y ∷ ys) = ap (λ t. eqb x y && t) (same_list_is xs ys)
+
+pub list_length : (a b : List ℕ) → (length a ≡ length b → ⊥) → same_list a b ≡ false
+unfolding same_list
+list_length [] [] h = absurd (h refl)
+list_length [] (y ∷ b) h = refl
+list_length (x ∷ a) [] h = refl
+list_length (x ∷ a) (y ∷ b) h = go (eqb x y) (list_length a b (λ z. h (ap suc z)))
+  where
+    go : (t : Bool) → same_list a b ≡ false → (t && same_list a b) ≡ false
+    go true e = e
+    go false e = refl

@@ -3,7 +3,7 @@ use Rattle.std.proofs.Common.{◌≡◌, Bool, true, false, ◌&&◌, [], ◌∷
 use Rattle.std.specs.Cmp.Lexicographic.{pointwise}
 use Rattle.arena.specs.Lists.{every}
 use Rattle.arena.specs.Nodes.{same}
-use Rattle.runs.proofs.Same.{pointwise_same}
+use Rattle.arena.proofs.Loops.{same_list_is}
 use Rattle.node_kinds.specs.declared.Node.{Node}
 use Rattle.node_kinds.specs.Numbers.{node_of}
 
@@ -23,4 +23,4 @@ pub eq_same : (m n : Node) → (eqb m.par n.par && (eqb m.ty n.ty && (eqb m.kind
 unfolding same
 eq_same m n =
     turned (eqb m.par n.par) (eqb m.ty n.ty) (eqb m.kind n.kind) (pointwise eqb m.members.now n.members.now)
-    ∙ ap (λ (b : Bool). every (eqb m.kind n.kind ∷ eqb m.ty n.ty ∷ eqb m.par n.par ∷ b ∷ [])) (pointwise_same m.members.now n.members.now)
+    ∙ ap (λ (b : Bool). every (eqb m.kind n.kind ∷ eqb m.ty n.ty ∷ eqb m.par n.par ∷ b ∷ [])) (same_list_is m.members.now n.members.now)

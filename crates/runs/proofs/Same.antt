@@ -4,13 +4,6 @@ use borrow.Author.Tests.{eq-eqb, ne_eqb, eqb-true, eqb-false}
 use Rattle.std.specs.Cmp.Lexicographic.{pointwise}
 use Rattle.arena.specs.Lists.{same_list}
 
-pub pointwise_same : (a b : List ℕ) → pointwise eqb a b ≡ same_list a b
-unfolding same_list
-pointwise_same [] [] = refl
-pointwise_same [] (y ∷ b) = refl
-pointwise_same (x ∷ a) [] = refl
-pointwise_same (x ∷ a) (y ∷ b) = ap (λ t. eqb x y && t) (pointwise_same a b)
-
 pub pointwise_turned : (a b : List ℕ) → pointwise eqb a b ≡ same_list b a
 unfolding same_list
 pointwise_turned [] [] = refl
