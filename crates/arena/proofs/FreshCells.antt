@@ -1,12 +1,11 @@
 -- Fresh cells, and cells cleared back to a mark.
-use mathlib.Core.Path.{◌≡◌, sym, ap, ap₂, ◌∙◌, subst}
+use Rattle.std.specs.Prelude.{Option, Some, None, IsSome, unwrap_or}
+use mathlib.Core.Path.{◌≡◌, refl, sym, ap, ap₂, ◌∙◌, subst}
 use Prim.Native.Nat.{ℕ, suc, ◌+◌, ◌-◌, ◌≤◌, ◌<◌}
 use native.Mathlib.Omega.{arith}
-use native.Mathlib.Numerals.{add-one}
 use mathlib.Core.Bool.{true, false}
-use mathlib.Core.List.{List, [], ◌∷◌, ◌++◌, append_assoc}
-use lib.ListN.{length, take, set, replicate, replicate-append-replicate}
-use lib.Seq.{take-suc-set, take_all}
+use mathlib.Core.List.{List, ◌++◌}
+use lib.ListN.{length, take, set, replicate}
 use borrow.Author.Tests.{le-leb, lt-leb}
 use Rattle.arena.specs.Lists.{every, within}
 use Rattle.arena.specs.Nodes.{mark, fresh, Out}
@@ -19,21 +18,6 @@ use Rattle.arena.proofs.Ext.{mark-fresh}
 use Rattle.arena.proofs.Padded.{padded-used, arena-cleared, fresh-arena}
 
 -- ---- cleared
-
--- one cell more
-pub clear_more : (b t : List ℕ) (m i : ℕ) → m ≤ i → i < length b → take i b ≡ t ++ replicate (i - m) 0 → take (i + 1) (set b i 0) ≡ t ++ replicate (i + 1 - m) 0
-clear_more b t m i h l e =
-    let s : i - m + 1 ≡ i + 1 - m = omega arith in
-    ap (λ (k : ℕ). take k (set b i 0)) (add-one i)
-    ∙ take-suc-set b i 0 l
-    ∙ ap (λ (x : List ℕ). x ++ (0 ∷ [])) e
-    ∙ append_assoc t (replicate (i - m) 0) (0 ∷ [])
-    ∙ ap (λ (x : List ℕ). t ++ x) (replicate-append-replicate (i - m) 1 0 ∙ ap (λ (k : ℕ). replicate k 0) s)
-
-pub clear-all : (c b : List ℕ) (m i : ℕ) → length b ≡ length c → length c ≤ i → m ≤ i → i - m ≤ length c - m → take i b ≡ take m c ++ replicate (i - m) 0 → b ≡ cleared c m
-clear-all c b m i l h g k e =
-    let s : i - m ≡ length c - m = omega arith in
-    sym (take_all i b (omega arith)) ∙ e ∙ ap (λ (n : ℕ). take m c ++ replicate n 0) s
 
 -- cells that agree with an arena below its mark are that arena's again once they are cleared
 pub restored : {c : List ℕ} {m : ℕ} → IsArena c m → (c' : List ℕ) → length c' ≡ length c → take m c' ≡ take m c → cleared c' m ≡ c
@@ -101,3 +85,14 @@ module _ {c : List ℕ} {r : ℕ} {c' : List ℕ} (f : Freshened c r c') (h : fe
   made_arena =
       subst (λ (n : ℕ). IsArena c' n) (sym (made_mark ∙ mark-fresh))
       (subst (λ (l : List ℕ). IsArena l fewest) (sym made_cells) (fresh-arena (length c) h k))
+
+-- ---- the answer as an Option
+
+-- a length that is allowed has a mark
+pub fresh_some : {c c' : List ℕ} (o : Option ℕ) → Freshened c (unwrap_or o 0) c' → fewest ≤ length c → length c ≤ most → IsSome o
+unfolding fresh_mark
+fresh_some {c} (Some m) f h k = refl
+fresh_some {c} None f h k = let e : 0 ≡ mark fresh = f.marked ∙ rw (within-yes (length c) h k) refl in let x = mark-fresh in absurd (omega arith)
+
+pub fresh_at : {c c' : List ℕ} (o : Option ℕ) {m : ℕ} → o ≡ Some m → Freshened c (unwrap_or o 0) c' → Freshened c m c'
+fresh_at {c} {c'} o e f = subst (λ (n : ℕ). Freshened c n c') (ap (λ q. unwrap_or q 0) e) f

@@ -1,21 +1,13 @@
 -- A stretch of cells, and a node written into them.
 use mathlib.Core.Path.{◌≡◌, sym, ap, ◌∙◌}
-use Prim.Native.Nat.{ℕ, suc, ◌+◌, ◌≤◌, ◌<◌}
+use Prim.Native.Nat.{ℕ, suc, ◌+◌, ◌≤◌}
 use native.Mathlib.Nat.{add_assoc}
 use native.Mathlib.Omega.{arith}
 use mathlib.Core.List.{List, [], ◌∷◌, ◌++◌, append_assoc}
-use lib.ListN.{length, get_or, take, drop, set, length-append, length-drop}
-use lib.Seq.{length-take-le, get_or-take, get_or-drop, sets-eq, drop-drop, take_at, drop_at, take-length, paste}
+use lib.ListN.{length, take, drop, set, length-append}
+use lib.Seq.{length-take-le, sets-eq, drop-drop, take_at, drop_at, take-length, paste}
 use Rattle.arena.specs.Nodes.{node, header}
 use Rattle.arena.specs.Cells.{cells_of}
-
--- the n cells from an index on
-module _ (c : List ℕ) (from n : ℕ) (h : from + n ≤ length c) where
-  pub stretch_length : length (take n (drop from c)) ≡ n
-  stretch_length = length-take-le n (drop from c) (simp length-drop (omega arith))
-
-  pub stretch_at : (i : ℕ) → i < n → get_or (take n (drop from c)) i 0 ≡ get_or c (from + i) 0
-  stretch_at i l = rw (get_or-take, get_or-drop)
 
 -- ---- a header and its members, written at m
 

@@ -109,9 +109,6 @@ module _ {a : Nodes} (c : Chain a) (p : ℕ) (h : 1 ≤ kind_at a p) {flags : Li
   pub walk_app : 21 < kind_at a p → Walked a p false flags
   walk_app k = record { answer = sym (clean-app c p h k); known = K }
 
-  pub walk_flag : get_or flags (p / 4) false ≡ true → Walked a p true flags
-  walk_flag e = record { answer = sym (K.holds p h e); known = K }
-
   pub slot_fits : p / 4 < length flags
   slot_fits = sure_slot K p h
 

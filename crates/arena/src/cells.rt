@@ -1,5 +1,5 @@
 // The lent cells: made fresh, cleared, and read. Every function here scans or reads; none but `fresh` and `clear_back` writes.
-ghost use Rattle.std.specs.Prelude.{◌≡◌, ◌≤◌};
+ghost use Rattle.std.specs.Prelude.{◌≡◌, ◌≤◌, unwrap_or};
 ghost use Rattle.arena.specs.Nodes.{kind_at, type_at, par_at, mem_at, arg_at};
 ghost use Rattle.arena.specs.WellFormed.{Below, is_term, is_type};
 ghost use Rattle.arena.specs.Fresh.{cleared, Freshened};
@@ -15,22 +15,22 @@ pub fn clear_back(cells: &mut [u64], mark: usize)
     }
 }
 
-// Bool, false, true, and zeros. The answer is the mark, or 0 for a length that is not allowed.
-pub fn fresh(cells: &mut [u64]) -> u64
-    ensures { Freshened cells.old result cells.new }
+// Bool, false, true, and zeros. The answer is the mark; there is none for a length that is not allowed.
+pub fn fresh(cells: &mut [u64]) -> Option<usize>
+    ensures { Freshened cells.old (unwrap_or result 0) cells.new }
 {
     if cells.len() < 12 {
-        return 0;
+        return None;
     }
     if cells.len() > 65536 {
-        return 0;
+        return None;
     }
     clear_back(cells, 0);
     cells[0] = 1;
     cells[4] = 16;
     cells[8] = 16;
     cells[10] = 1;
-    12
+    Some(12)
 }
 
 // The cells below a mark are nodes, to read.

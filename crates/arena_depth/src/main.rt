@@ -3,7 +3,7 @@
 
 #![tactic(auto)]
 
-ghost use Rattle.std.specs.Prelude.{◌+◌, ◌≤◌, ◌<◌, length};
+ghost use Rattle.std.specs.Prelude.{◌+◌, ◌≤◌, ◌<◌};
 
 use arena::cells::View;
 use std::io;
@@ -11,11 +11,9 @@ use walks::{has_fields, is_literal, set_free};
 use wellformed::is_formed;
 
 // Cells at a place, where they have room.
-fn put(cells: &mut [u64], at: usize, node: &[u64])
-    requires { at + length node.now ≤ 65552 }
-{
-    if let Some(place) = cells.get_mut(at..at + node.len()) {
-        place.copy_from_slice(node);
+fn put(cells: &mut [u64], at: usize, node: &[u64]) {
+    for (cell, v) in cells.iter_mut().skip(at).zip(node) {
+        *cell = *v;
     }
 }
 

@@ -58,14 +58,13 @@ fn say_answer(rt: &impl Print, answer: Answer) -> io::Result<()> {
 }
 
 // Writes the text where it gets full; answers where the next number goes.
-fn flushed(rt: &impl Print, text: &[u8], end: usize) -> io::Result<usize>
-    requires { end ≤ length text.now }
+fn flushed(rt: &impl Print, text: &[u8]) -> io::Result<usize>
     ensures { IfOk result (λ next. next ≤ 4000) }
 {
-    if end <= 4000 {
-        return Ok(end);
+    if text.len() <= 4000 {
+        return Ok(text.len());
     }
-    rt.write_all(&text[..end])?;
+    rt.write_all(text)?;
     Ok(0)
 }
 
@@ -75,7 +74,7 @@ fn say_cells(rt: &impl Print, cells: &[u64], mark: usize) -> io::Result<()> {
     let mut text = [0u8; 4096];
     let mut end: usize = 0;
     for cell in cells.iter().take(mark) {
-        let at = flushed(rt, &text, end)?;
+        let at = flushed(rt, &text[..end])?;
         text[at] = b' ';
         end = answers::write_decimal(&mut text, at + 1, *cell);
     }
@@ -148,7 +147,7 @@ fn walk(
 fn run(rt: &impl Print, bytes: &[u8], cells: &mut [u64], results: &mut [u64]) -> io::Result<()>
     requires { length cells.old ≡ 65536 }
 {
-    let mark = arena::cells::fresh(cells) as usize;
+    let mark = arena::cells::fresh(cells).unwrap();
     let end = walk(rt, bytes, cells, results, mark)?;
     say_cells(rt, cells, end)
 }

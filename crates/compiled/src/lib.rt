@@ -12,7 +12,7 @@ ghost use Rattle.arena.specs.Runs.{Holds};
 ghost use Rattle.nodes.specs.Builds.{nodes_of, Builds, term_reply};
 ghost use Rattle.factory.specs.Fit.{Typed, OfKind, Options, Ready};
 ghost use Rattle.factory.specs.SetSteps.{record_get};
-ghost use Rattle.compiler.specs.Compiler.{fields_at, compiled_not, neg_unless, compiled_neg, compiled_is_empty, gotten, inner as inner_of, if_all_given, record_if_all, compiled_record, has_field, has_some, compiled_has_attr, optioned as optionedBy, compiled_get_attr};
+ghost use Rattle.compiler.specs.Compiler.{fields_at, compiled_not, neg_unless, compiled_neg, compiled_is_empty, gotten, inner as inner_of, if_all_given, record_if_all, compiled_record, has_some, compiled_has_attr, optioned as optionedBy, compiled_get_attr};
 ghost use Rattle.arena.specs.Lists.{field};
 ghost use Rattle.runs.specs.Fields.{given};
 ghost use Rattle.compiler.specs.Buffers.{fields_reply, HoldsInner, HasField, OptionalField};

@@ -89,7 +89,7 @@ fn walk(
     count: u64,
     at: usize,
 ) -> io::Result<usize> {
-    let mark = arena::cells::fresh(cells);
+    let mark = arena::cells::fresh(cells).unwrap_or(0) as u64;
     let mut place = Place { at, mark };
     for _ in 0..count {
         place = step(rt, bytes, cells, place)?;

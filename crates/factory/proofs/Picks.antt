@@ -95,10 +95,6 @@ nil_length (x ∷ l) = ne_eqb (length (x ∷ l)) 0 (λ e. omega arith)
 
 -- ---- the attribute's field, or 0
 
-pub field_none : (l : List ℕ) (k : ℕ) → field l k ≡ none → field_d l k ≡ 0
-unfolding field_d
-field_none l k e = ap (λ (f : Option ℕ). elim f [ none ↦ 0 | some p ↦ p ]) e
-
 -- what `contains` answers
 turned : (x y : ℕ) → eqb y x ≡ eqb x y
 turned x y = go (eqb x y) refl

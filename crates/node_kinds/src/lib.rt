@@ -2,11 +2,11 @@
 
 #![tactic(auto)]
 
-ghost use Rattle.std.specs.Prelude.{◌≡◌, true, cond, [], ◌∷◌, length, get_or, eqb, leb};
-ghost use Rattle.arena.specs.Lists.{every, all, rising, same_list};
-ghost use Rattle.arena.specs.Nodes.{mem_at, arg_at, paired, field_types};
+ghost use Rattle.std.specs.Prelude.{◌≡◌, cond, length, get_or};
+ghost use Rattle.arena.specs.Lists.{every};
+ghost use Rattle.arena.specs.Nodes.{paired};
 ghost use Rattle.arena.specs.View.{nodes_of};
-ghost use Rattle.arena.specs.WellFormed.{field_run, kind_is, type_is, placed, type_test, maker_test, core_test, bv_test, data_test, kind_test};
+ghost use Rattle.arena.specs.WellFormed.{field_run, placed, type_test, maker_test, core_test, bv_test, data_test, kind_test};
 ghost use Rattle.node_tests.specs.Decide.{ElemType};
 
 use node_tests::Want;

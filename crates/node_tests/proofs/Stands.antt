@@ -1,21 +1,16 @@
 -- What stands at a position below q.
 use mathlib.Core.Path.{◌≡◌, refl, sym, ap, ◌∙◌}
-use Prim.Native.Nat.{ℕ, zero, suc, ◌+◌, ◌-◌, ◌*◌, ◌/◌, ◌%◌, ◌≤◌, ◌<◌}
+use Prim.Native.Nat.{ℕ, zero, suc, ◌+◌, ◌*◌, ◌/◌, ◌%◌, ◌≤◌, ◌<◌}
 use native.Mathlib.Omega.{arith}
 use mathlib.Core.List.{List, [], ◌∷◌}
-use lib.ListN.{length, take, drop, get_or}
+use lib.ListN.{length, get_or}
 use Rattle.arena.specs.Nodes.{Node, Nodes, nowhere, node_at, kind_at, mem_at, field_types}
 use Rattle.arena.specs.Cells.{cells_of, used}
 use Rattle.arena.specs.WellFormed.{Below}
 use Rattle.arena.specs.Lent.{Starts}
-use Rattle.arena.proofs.Runs.{mem0}
 use Rattle.arena.proofs.Formed.{wf}
-use Rattle.arena.proofs.Read.{node-fits, cell, read_count, read_members, nowhere-at}
+use Rattle.arena.proofs.Read.{node-fits, cell, nowhere-at}
 use Rattle.arena.proofs.Lent.{far, no_start, slot}
-
-nonzero : (n : ℕ) → (n ≡ 0 → ⊥) → 1 ≤ n
-nonzero zero h = absurd (h refl)
-nonzero (suc n) h = omega arith
 
 all_zero : (j : ℕ) → get_or (cells_of nowhere) j 0 ≡ 0
 all_zero zero = refl
@@ -45,23 +40,9 @@ module _ {c : List ℕ} {q : ℕ} {f : List ℕ} (B : Below c q) (S : Starts (us
     pub look_fits : p + j < length c
     look_fits = let x = node-fits B p (S.no p h) in let y = B.fits in omega arith
 
-  -- the members, n of them
-  module _ (n : ℕ) (e : n ≡ length (mem_at (used c q) p)) where
-    pub no_members : n ≡ 0 → [] ≡ mem_at (used c q) p
-    no_members z = sym (mem0 (mem_at (used c q) p) (sym e ∙ z))
-
-    module _ (h : n ≡ 0 → ⊥) where
-      stands : 1 ≤ kind_at (used c q) p
-      stands = nonzero (kind_at (used c q) p) (λ z. h (e ∙ ap (λ (m : Node). length m.mem) (nowhere-at (wf B).chain p z)))
-
-      pub members_fit : p + 4 + n ≤ length c
-      members_fit = let x = node-fits B p stands in omega arith
-
-      pub members_are : take (p + 4 + n - (p + 4)) (drop (p + 4) c) ≡ mem_at (used c q) p
-      members_are =
-          let k = read_count B p stands in
-          let d : p + 4 + n - (p + 4) ≡ get_or c (p + 3) 0 = omega arith in
-          ap (λ (i : ℕ). take i (drop (p + 4) c)) d ∙ read_members B p stands
+-- nor has it members
+pub no_members : {c : List ℕ} {q : ℕ} (B : Below c q) (p : ℕ) → kind_at (used c q) p ≡ 0 → mem_at (used c q) p ≡ []
+no_members B p e = ap (λ (n : Node). n.mem) (nowhere-at (wf B).chain p e)
 
 -- ---- the types of what fields hold
 

@@ -56,17 +56,15 @@ impl Seen<'_, '_> {
         self.look(p, 2)
     }
 
-    // Its members.
+    // Its members, none where none starts.
+    #[tactic(auto, using(crate::proofs::Stands::no_members))]
     pub fn members_at(&self, p: u64) -> &[u64]
         ensures { result.now ≡ mem_at (nodes_of self.now.nodes) p }
     {
-        let n = self.look(p, 3);
-        if n == 0 {
+        if self.kind_at(p) == 0 {
             return &[];
         }
-        let a = p as usize + 4;
-        let e = a + n as usize;
-        &self.nodes.cells[a..e]
+        self.nodes.members_of(p)
     }
 
     // Its first member, or 0.

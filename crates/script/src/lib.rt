@@ -67,6 +67,6 @@ pub fn run(bytes: &[u8], cells: &mut [u64], out: &mut [u8]) -> usize
     if bytes.len() > LONGEST {
         return answers::write_refused(out, 0, 10);
     }
-    let mark = arena::cells::fresh(cells) as usize;
+    let mark = arena::cells::fresh(cells).unwrap();
     walk(bytes, cells, out, mark)
 }

@@ -50,7 +50,7 @@ fn tell(told: &mut [u64], mark: u64, answer: Answer) -> u64
 pub extern "C" fn tameswulk_fresh(cells: &mut [u64]) -> u64
     ensures { Freshened cells.old result cells.new }
 {
-    arena::cells::fresh(cells)
+    arena::cells::fresh(cells).unwrap_or(0) as u64
 }
 
 // One call on an arena known to be well formed.

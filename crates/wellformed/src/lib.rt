@@ -43,6 +43,7 @@ fn is_new(cells: &[u64], q: usize) -> bool
     let node = read(cells, q);
     let last = q + 3 + cells[q + 3] as usize;
     let mut p = cells[last] as usize;
+    // each node says how far the next is: an iterator would have this loop's body as its `next`, and be no plainer
     while p < q {
         let other = read(cells, p);
         if other == node {
@@ -69,6 +70,7 @@ fn nodes_follow(cells: &[u64], mark: usize, starts: &mut [u8]) -> bool
     ensures { result ≡ formed cells.now mark }
 {
     let mut q: usize = 12;
+    // the next node's place follows from this one's count, as in is_new
     while q < mark {
         if mark - q < 4 {
             return false;
@@ -96,7 +98,7 @@ fn starts_fresh(cells: &[u64]) -> bool
     cells.starts_with(&[1, 0, 0, 0, 16, 0, 0, 0, 16, 0, 1, 0])
 }
 
-// Whether the lent cells and the mark are a well-formed arena.
+// Whether the lent cells and the mark are a well-formed arena. They come apart: a `View` is what they are once they have passed.
 pub fn is_formed(cells: &[u64], mark: u64) -> bool
     ensures { result ≡ formed cells.now mark }
 {
@@ -113,6 +115,7 @@ pub fn is_formed(cells: &[u64], mark: u64) -> bool
     if !starts_fresh(cells) {
         return false;
     }
+    // a byte for four cells: there is no heap, and an arena has 65,536 cells at most
     let mut starts = [0u8; 16384];
     starts[0] = 1;
     starts[1] = 1;

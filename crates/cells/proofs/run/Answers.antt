@@ -1,6 +1,9 @@
 use Rattle.std.proofs.Common.{arith}
-use Rattle.arena.proofs.FreshCells.{made_arena}
+use Rattle.arena.proofs.FreshCells.{made_arena, fresh_some, fresh_at}
 use Rattle.cells.proofs.run.Goals as goal
 
+pub unwrap-mark-requires : goal.unwrap-mark-requires
+unwrap-mark-requires g c = fresh_some _ c.fresh.ensures (omega arith) (omega arith)
+
 pub walk-requires : goal.walk-requires
-walk-requires g c = made_arena c.fresh-mark.ensures (omega arith) (omega arith)
+walk-requires g c = made_arena (fresh_at _ c.unwrap-mark.ensures c.fresh.ensures) (omega arith) (omega arith)

@@ -2,12 +2,9 @@ use Rattle.std.proofs.Common.{sym, ◌∙◌, arith}
 use lib.ListN.{length-set}
 use Rattle.arena.proofs.Tiling.{next-below}
 use Rattle.arena.proofs.Lent.{next-starts}
-use Rattle.node_tests.proofs.Steps.{begin, bad-room, bad_good, bad_new, at_end}
+use Rattle.node_tests.proofs.Steps.{bad-room, bad_good, bad_new, at_end}
 use Rattle.wellformed.proofs.nodes_follow.Goals as goal
 use Rattle.wellformed.proofs.nodes_follow.Goals.{then-not-good_node-via-then-not-good_node, then-not-good_node-via-else-not-good_node+then-not-is_new}
-
-pub loop-q-init : goal.loop-q-init
-loop-q-init c = begin c.requires
 
 pub returns-then-mark-q-lt4 : goal.returns-then-mark-q-lt4
 returns-then-mark-q-lt4 c = bad-room c.loop-q.invariant.below c.loop-q-test.true (λ f. omega arith)
