@@ -19,13 +19,5 @@ pub returns-then-not-operands_ok : goal.returns-then-not-operands_ok
 returns-then-not-operands_ok c =
     at_4 _ _ c.is_known.ensures (ap not c.if-not-is_known.false) c.form_of-form.ensures c.count_ok.ensures c.takes_parameter.ensures c.if-count_ok-takes_parameter.false c.too_many.ensures c.if-too_many.false c.operands_ok.ensures (ap not c.if-not-operands_ok.true)
 
-pub invariant_of-suited : goal.invariant_of-suited
-invariant_of-suited c =
-    let a = nodes_of c.args.nodes.now in let i = instr c.args.op c.args.par c.args.count c.args.operands.now in
-    record {
-      known = known-op a i c.is_known.ensures (ap not c.if-not-is_known.false);
-      suited = suited a i c.is_known.ensures (ap not c.if-not-is_known.false) c.form_of-form.ensures c.count_ok.ensures c.takes_parameter.ensures c.if-count_ok-takes_parameter.false c.too_many.ensures c.if-too_many.false c.operands_ok.ensures (ap not c.if-not-operands_ok.false);
-    }
-
 pub returns : goal.returns
 returns c = c.refusal.ensures ∙ past_4 _ (instr c.args.op c.args.par c.args.count c.args.operands.now) c.is_known.ensures (ap not c.if-not-is_known.false) c.form_of-form.ensures c.count_ok.ensures c.takes_parameter.ensures c.if-count_ok-takes_parameter.false c.too_many.ensures c.if-too_many.false c.operands_ok.ensures (ap not c.if-not-operands_ok.false)
