@@ -1,4 +1,4 @@
-// The whole dispatcher: every operation by number.
+// The whole dispatcher: every operation by number, as in the table.
 ghost use Rattle.std.specs.Prelude.{◌≤◌};
 ghost use Rattle.nodes.specs.Builds.{Builds, term_reply, node_reply};
 ghost use Rattle.factory.specs.Fit.{Ready};

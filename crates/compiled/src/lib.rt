@@ -24,13 +24,9 @@ use factory_bitvectors::{bvneg, bvnego};
 use factory_core::not;
 use factory_data::{option_get, record_get, set_is_empty};
 use factory_helpers::{if_all_some, if_false, is_some};
-use factory_makers::{record_of, some_of};
+use factory_makers::{FALSE, TRUE, record_of, some_of};
 use nodes::{Arena, Full};
 use runs::{field, nth};
-
-const FALSE: TermPos = TermPos(4);
-
-const TRUE: TermPos = TermPos(8);
 
 // ---------- compile_app1 ----------
 
@@ -78,6 +74,7 @@ fn get_fields(arena: &mut Arena<'_>, list: &[u64], inner: &mut [u64]) -> Result<
     ensures did { Builds (λ a. out (gotten a list.now) 0) arena.old (fields_reply result) arena.new }
     ensures holds_inner { HoldsInner (inner_of (nodes_of arena.old) list.now) inner.old (length list.now) result inner.new }
 {
+    // by place, since what is promised of `inner` is by place
     for i in 0..list.len() / 2 {
         let p = option_get(arena, TermPos(list[2 * i + 1]))?;
         inner[2 * i] = list[2 * i];
@@ -194,7 +191,7 @@ pub fn compile_get_attr(arena: &mut Arena<'_>, k: u64, t: TermPos) -> Result<Ter
     optioned(arena, option, p)
 }
 
-// Operations 70 to 75 by number.
+// Operations 70 to 75 by number, as in `dispatch`.
 pub fn build_compiled(arena: &mut Arena<'_>, op: u64, par: u64, xs: &[u64]) -> Result<TermPos, Full>
     requires ready { Ready (λ a. Passes a op par xs.now) arena.old }
     requires le_op { 70 ≤ op × op ≤ 75 }

@@ -69,7 +69,7 @@ pub fn bvapp(arena: &mut Arena<'_>, op: u64, t: TermPos, u: TermPos) -> Result<T
     app2(arena, op, ty, t, u)
 }
 
-// Operations 41 to 44.
+// Operations 41 to 44. That `bvso` differs in the one call is shorter than what a closure would have to promise.
 pub fn bvcmp(arena: &mut Arena<'_>, op: u64, t: TermPos, u: TermPos) -> Result<TermPos, Full>
     requires ready { Ready (λ a. OfKind a 2 t.0 × Alike a t.0 u.0) arena.old }
     requires op_bound { op ≤ 99 }

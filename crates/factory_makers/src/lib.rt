@@ -92,6 +92,7 @@ fn field_types(arena: &Arena<'_>, run: &[u64], types: &mut [u64])
     requires run_in_bounds { length run.now ≤ length types.old }
     ensures { Holds (field_types (nodes_of arena.now) run.now) types.old (length run.now) types.new }
 {
+    // by place, since what is promised of `types` is by place
     for i in 0..run.len() / 2 {
         types[2 * i] = run[2 * i];
         types[2 * i + 1] = arena.type_of(TermPos(run[2 * i + 1])).0;
