@@ -3,7 +3,7 @@ use Rattle.std.specs.Prelude.{Option, Some, None, IsSome, unwrap_or}
 use mathlib.Core.Path.{◌≡◌, refl, sym, ap, ap₂, ◌∙◌, subst}
 use Prim.Native.Nat.{ℕ, suc, ◌+◌, ◌-◌, ◌≤◌, ◌<◌}
 use native.Mathlib.Omega.{arith}
-use mathlib.Core.Bool.{true, false}
+use mathlib.Core.Bool.{Bool, true, false, cond}
 use mathlib.Core.List.{List, ◌++◌}
 use lib.ListN.{length, take, set, replicate}
 use borrow.Author.Tests.{le-leb, lt-leb}
@@ -11,7 +11,7 @@ use Rattle.arena.specs.Lists.{every, within}
 use Rattle.arena.specs.Nodes.{mark, fresh, Out}
 use Rattle.arena.specs.Cells.{cells, padded, used}
 use Rattle.arena.specs.WellFormed.{fewest, most, IsArena}
-use Rattle.arena.specs.Fresh.{cleared, fresh_mark, fresh_cells, Freshened}
+use Rattle.arena.specs.Fresh.{cleared, fresh_mark, fresh_answer, fresh_cells, Freshened}
 use Rattle.arena.specs.Did.{Reply, Done}
 use Rattle.arena.proofs.Bools.{all-every}
 use Rattle.arena.proofs.Ext.{mark-fresh}
@@ -88,11 +88,31 @@ module _ {c : List ℕ} {r : ℕ} {c' : List ℕ} (f : Freshened c r c') (h : fe
 
 -- ---- the answer as an Option
 
--- a length that is allowed has a mark
-pub fresh_some : {c c' : List ℕ} (o : Option ℕ) → Freshened c (unwrap_or o 0) c' → fewest ≤ length c → length c ≤ most → IsSome o
-unfolding fresh_mark
-fresh_some {c} (Some m) f h k = refl
-fresh_some {c} None f h k = let e : 0 ≡ mark fresh = f.marked ∙ rw (within-yes (length c) h k) refl in let x = mark-fresh in absurd (omega arith)
+pub answer_low : (c : List ℕ) → length c < 12 → None ≡ fresh_answer c
+unfolding fresh_answer
+answer_low c h = sym (rw (within_low (length c) h) refl)
 
-pub fresh_at : {c c' : List ℕ} (o : Option ℕ) {m : ℕ} → o ≡ Some m → Freshened c (unwrap_or o 0) c' → Freshened c m c'
-fresh_at {c} {c'} o e f = subst (λ (n : ℕ). Freshened c n c') (ap (λ q. unwrap_or q 0) e) f
+pub answer_high : (c : List ℕ) → 12 ≤ length c → 65536 < length c → None ≡ fresh_answer c
+unfolding fresh_answer
+answer_high c h k = sym (rw (within_high (length c) h k) refl)
+
+pub answer_made : (c : List ℕ) → 12 ≤ length c → length c ≤ 65536 → Some 12 ≡ fresh_answer c
+unfolding fresh_answer
+answer_made c h k = sym (rw (within-yes (length c) h k) (ap Some mark-fresh))
+
+-- what it says as a number, 0 where there is none
+pub freshened : {c c' : List ℕ} (o : Option ℕ) → o ≡ fresh_answer c → c' ≡ fresh_cells c → Freshened c (unwrap_or o 0) c'
+unfolding fresh_answer fresh_mark
+freshened {c} o e f = record { marked = ap (λ q. unwrap_or q 0) e ∙ go (within fewest most (length c)); left = f }
+  where
+    go : (b : Bool) → unwrap_or (cond b (Some (mark fresh)) None) 0 ≡ cond b (mark fresh) 0
+    go true = refl
+    go false = refl
+
+-- a length that is allowed has a mark
+pub fresh_some : (c : List ℕ) (o : Option ℕ) → o ≡ fresh_answer c → fewest ≤ length c → length c ≤ most → IsSome o
+unfolding fresh_answer
+fresh_some c o e h k = rw (e, within-yes (length c) h k) refl
+
+pub fresh_at : {c c' : List ℕ} (o : Option ℕ) {m : ℕ} → o ≡ Some m → o ≡ fresh_answer c → c' ≡ fresh_cells c → Freshened c m c'
+fresh_at {c} {c'} o e a f = subst (λ (n : ℕ). Freshened c n c') (ap (λ q. unwrap_or q 0) e) (freshened o a f)

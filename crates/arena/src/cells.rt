@@ -1,8 +1,8 @@
 // The lent cells: made fresh, cleared, and read. Every function here scans or reads; none but `fresh` and `clear_back` writes.
-ghost use Rattle.std.specs.Prelude.{◌≡◌, ◌≤◌, unwrap_or};
+ghost use Rattle.std.specs.Prelude.{◌≡◌, ◌≤◌};
 ghost use Rattle.arena.specs.Nodes.{kind_at, type_at, par_at, mem_at, arg_at};
 ghost use Rattle.arena.specs.WellFormed.{Below, is_term, is_type};
-ghost use Rattle.arena.specs.Fresh.{cleared, Freshened};
+ghost use Rattle.arena.specs.Fresh.{cleared, fresh_answer, fresh_cells};
 
 use crate::{HEADER, TermPos, TypePos};
 
@@ -17,7 +17,8 @@ pub fn clear_back(cells: &mut [u64], mark: usize)
 
 // Bool, false, true, and zeros. The answer is the mark; there is none for a length that is not allowed.
 pub fn fresh(cells: &mut [u64]) -> Option<usize>
-    ensures { Freshened cells.old (unwrap_or result 0) cells.new }
+    ensures answer { result ≡ fresh_answer cells.old }
+    ensures left { cells.new ≡ fresh_cells cells.old }
 {
     if cells.len() < 12 {
         return None;

@@ -22,7 +22,7 @@ pub struct Seen<'a, 's> {
     pub ghost known: { Starts (nodes_of nodes) starts.now },
 }
 
-impl Seen<'_, '_> {
+impl<'a> Seen<'a, '_> {
     // Cell j of the header of the node at p; 0 where none starts.
     pub fn look(&self, p: u64, j: usize) -> u64
         requires { j ≤ 3 }
@@ -58,7 +58,7 @@ impl Seen<'_, '_> {
 
     // Its members, none where none starts.
     #[tactic(auto, using(crate::proofs::Stands::no_members))]
-    pub fn members_at(&self, p: u64) -> &[u64]
+    pub fn members_at(&self, p: u64) -> &'a [u64]
         ensures { result.now ≡ mem_at (nodes_of self.now.nodes) p }
     {
         if self.kind_at(p) == 0 {
