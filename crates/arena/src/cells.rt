@@ -63,7 +63,8 @@ pub struct View<'a> {
 impl<'a> View<'a> {
     ghost use Rattle.arena.specs.View.{nodes_of};
 
-    // The kind of the node that starts at p, 0 where none does. The walk begins at the node that starts at `from`, where p is not below it.
+    // The kind of the node that starts at p, 0 where none does. The walk begins at the node that starts at `from`, where p is not below it. A node's
+    // cells say how far the next one is: an iterator would hold this body as its `next`.
     #[tactic(auto, using(crate::proofs::Starts::past_fits))]
     pub fn kind_from(&self, from: u64, p: u64) -> u64
         requires { 1 ≤ kind_at (nodes_of self.now) from }
@@ -82,7 +83,7 @@ impl<'a> View<'a> {
         0
     }
 
-    // The kind of the node that starts at p, 0 where none does: p is any number.
+    // The kind of the node that starts at p, 0 where none does: p is any number. No kind is 0, and the definition `kind_at` gives it too.
     pub fn kind_at(&self, p: u64) -> u64
         ensures { result ≡ kind_at (nodes_of self.now) p }
     {

@@ -1,4 +1,5 @@
-// The dispatcher, the factory's operations: each is decided by its number, and builds as the table says.
+// The dispatcher, the factory's operations: each is decided by its number, and builds as the table says. Its number, parameter and operands stay apart, since
+// each function takes the instruction to pieces; the numbers are the table's.
 
 #![tactic(auto, using(factory::proofs::Calls::term_pos))]
 

@@ -113,7 +113,7 @@ pub fn some_of(arena: &mut Arena<'_>, t: TermPos) -> Result<TermPos, Full>
     arena.typed_node(3, 0, &of, 19, 0, &[t.0])
 }
 
-// Members by position, without duplicates.
+// Members by position, without duplicates. A run stands at the front of an array, since memory is fixed and there is no heap.
 pub fn set_of(arena: &mut Arena<'_>, ty: TypePos, terms: &[u64]) -> Result<TermPos, Full>
     requires ready { Ready (λ a. is_type a ty.0 ≡ true × set_free a ty.0 ≡ true) arena.old }
     requires terms_len_bound { length terms.now ≤ 256 }

@@ -30,7 +30,8 @@ fn add(cells: &mut [u64], mark: usize, node: &Node<'_>)
     cells[from..from + node.members.len()].copy_from_slice(node.members);
 }
 
-// Lent cells in which nodes are built: the next one starts at the mark.
+// Lent cells in which nodes are built: the next one starts at the mark. That it is well formed is asked and not kept: `term_node` answers for any node,
+// also for one that isn't good.
 #[derive(Drop)]
 pub struct Arena<'a> {
     pub cells: &'a mut [u64],
@@ -96,7 +97,7 @@ impl Arena<'_> {
         self.view().arg_of(p, i)
     }
 
-    // Where the node with these cells starts.
+    // Where the node with these cells starts: from node to node, as in `View::kind_from`.
     fn find(&self, node: &Node<'_>) -> Option<usize>
         requires { IsRead self.now }
         ensures { result ≡ spot (findNode (nodes_of self.now) (node_of node.now)) }

@@ -1,4 +1,4 @@
-// The functions that a program in C or Rust links: slices and numbers, and a name that begins with the library's.
+// The functions that a program in C or Rust links: slices and numbers, as C has them, and a name that begins with the library's.
 
 #![tactic(auto)]
 
