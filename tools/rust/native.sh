@@ -15,9 +15,10 @@ crates=(bitvec bitvec_closures arena nodes walks sorting runs node_tests node_ki
 for crate in "${crates[@]}"; do
     mkdir "$build/$crate"
     for file in "crates/$crate"/src/*.rt; do
-        # no contracts, slices passed as Rust passes them; native.rs has the functions that C calls
-        sed -E '/^ *((pub )?ghost|requires|ensures) |^ *#!?\[(tactic\(|unsafe\(no_mangle\))/d
-            s/std::num::wrapping_(add|sub|mul)_u64\(/u64::wrapping_\1(/; s/^pub extern "C" fn/pub fn/' \
+        # no contracts, slices passed and text printed as Rust does; native.rs has the functions that C calls
+        sed -E '/^ *((pub )?ghost|requires|ensures) |^ *#!?\[(tactic\(|unsafe\(no_mangle\)|derive\(Drop\))/d
+            s/std::num::wrapping_(add|sub|mul)_u64\(/u64::wrapping_\1(/; s/^pub extern "C" fn/pub fn/
+            s/fmt<W: fmt::Write>/fmt/; s/Formatter<W>/Formatter/' \
             "$file" >"$build/$crate/$(basename "$file" .rt).rs"
     done
     [ "$crate" != tameswulk ] || cat tools/rust/native.rs >>"$build/tameswulk/lib.rs"

@@ -31,6 +31,7 @@ pub mod Flat
 pub mod Formed
 pub mod Read
 pub mod Tiling
+pub mod Same
 pub mod Scan
 pub mod Starts
 pub mod Stretch

@@ -3,6 +3,7 @@ pub mod Lists
 pub mod Runs
 pub mod Nodes
 pub mod Cells
+pub mod Node
 pub mod Walks
 pub mod WellFormed
 pub mod Lent

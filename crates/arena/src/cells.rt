@@ -1,10 +1,12 @@
 // The lent cells: made fresh, cleared, and read. Every function here scans or reads; none but `fresh` and `clear_back` writes.
-ghost use Rattle.std.specs.Prelude.{◌≡◌, ◌≤◌};
+ghost use Rattle.std.specs.Prelude.{◌≡◌, ◌≤◌, length};
 ghost use Rattle.arena.specs.Nodes.{kind_at, type_at, par_at, mem_at, arg_at};
+ghost use Rattle.arena.specs.Cells.{node_here, after};
 ghost use Rattle.arena.specs.WellFormed.{Below, is_term, is_type};
 ghost use Rattle.arena.specs.Fresh.{cleared, fresh_answer, fresh_cells};
+ghost use Rattle.arena.specs.Node.{node_of};
 
-use crate::{HEADER, TermPos, TypePos};
+use crate::{HEADER, Node, TermPos, TypePos};
 
 // Zeros from the mark on: where no cell below it changed, the arena is as it was.
 pub fn clear_back(cells: &mut [u64], mark: usize)
@@ -32,6 +34,23 @@ pub fn fresh(cells: &mut [u64]) -> Option<usize>
     cells[8] = 16;
     cells[10] = 1;
     Some(12)
+}
+
+// The node whose cells begin at p. The searches call it at each node, so it is inlined there.
+#[inline]
+#[tactic(auto, unfolding(crate::specs::Cells::node_here))]
+pub fn read(cells: &[u64], p: usize) -> Node<'_>
+    requires { after cells.now p ≤ length cells.now }
+    ensures { node_of result ≡ node_here cells.now p }
+{
+    let from = p + HEADER;
+    let end = from + cells[p + 3] as usize;
+    Node {
+        par: cells[p + 2],
+        ty: cells[p + 1],
+        kind: cells[p],
+        members: &cells[from..end],
+    }
 }
 
 // The cells below a mark are nodes, to read.

@@ -9,21 +9,12 @@ ghost use Rattle.arena.specs.View.{nodes_of};
 ghost use Rattle.arena.specs.WellFormed.{field_run, placed, type_test, maker_test, core_test, bv_test, data_test, kind_test};
 ghost use Rattle.node_tests.specs.Decide.{ElemType};
 
+use arena::Node;
 use node_tests::Want;
 use node_tests::looks::Seen;
 use node_tests::tests::{fits_width, is_sum};
 use runs::{field, field_run, nth, rises};
 use walks::{has_fields, set_free};
-
-// A node's numbers. The kind is no enum: any number may stand in a cell, and document 01's tests, which the contracts name, are on numbers.
-// The parameter stands first, since `==` compares in that order, and parameters differ most often.
-#[derive(Clone, Copy, PartialEq)]
-pub struct Node<'a> {
-    pub par: u64,
-    pub ty: u64,
-    pub kind: u64,
-    pub members: &'a [u64],
-}
 
 // 1 Bool, 2 Bitvec, 3 Option, 4 Set, 5 Record.
 #[tactic(auto, unfolding(arena::specs::Lists::every, arena::specs::WellFormed::type_test))]

@@ -14,8 +14,7 @@ use Rattle.arena.proofs.Formed.{mark_is}
 use Rattle.arena.proofs.Put.{find_sound}
 use Rattle.arena.proofs.Steps.{did_found, did_full, did_added}
 use Rattle.nodes.specs.declared.Arena.{Arena}
-use Rattle.nodes.specs.Node.{spot}
-use Rattle.nodes.specs.Builds.{nodes_of, Formed, Builds}
+use Rattle.nodes.specs.Builds.{nodes_of, Formed, spot, Builds}
 
 pub spot-some : (f : Option ℕ) (p : ℕ) → spot f ≡ Some p → f ≡ some p
 spot-some none p e = absurd cc

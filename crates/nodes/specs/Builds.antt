@@ -1,5 +1,6 @@
 -- What a builder leaves of an arena, and what its answer stands for.
 use Rattle.std.specs.Prelude.{◌≡◌, ℕ, Option, Some, None, Result, Ok, Err}
+use Rattle.std.proofs.Math.Option.{Option as Place, none, some}
 use Rattle.arena.specs.Nodes.{Nodes, Out}
 use Rattle.arena.specs.Cells.{used}
 use Rattle.arena.specs.WellFormed.{Below, IsArena}
@@ -33,6 +34,11 @@ type_reply (Err e) = None
 abbrev pub node_reply : Result ℕ Full → Option ℕ
 node_reply (Ok p) = Some p
 node_reply (Err e) = None
+
+-- where a search ends, as the code answers it
+abbrev pub spot : Place ℕ → Option ℕ
+spot none = None
+spot (some p) = Some p
 
 -- with the mark m afterwards
 abbrev pub reply_at : ℕ → Option ℕ → Reply

@@ -1,3 +1,2 @@
--- A node by its cells, and what a builder leaves of an arena.
-pub mod Node
+-- What a builder leaves of an arena.
 pub mod Builds

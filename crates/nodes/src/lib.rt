@@ -3,47 +3,19 @@
 #![tactic(auto)]
 
 ghost use Rattle.std.specs.Prelude.{◌≡◌, true, ◌++◌, ◌+◌, ◌≤◌, length, take, drop};
-ghost use Rattle.arena.specs.Nodes.{node, header, same, find as findNode, put, kind_at, type_at, par_at, mem_at, arg_at};
-ghost use Rattle.arena.specs.Cells.{cells_of, node_here, after};
+ghost use Rattle.arena.specs.Nodes.{node, header, find as findNode, put, kind_at, type_at, par_at, mem_at, arg_at};
+ghost use Rattle.arena.specs.Cells.{cells_of};
+ghost use Rattle.arena.specs.Node.{node_of};
 ghost use Rattle.arena.specs.WellFormed.{good_node};
 ghost use Rattle.arena.specs.Did.{put_typed};
-ghost use Rattle.nodes.specs.Node.{node_of, spot};
 ghost use Rattle.arena.specs.View.{nodes_of as seen_nodes};
 
-use arena::cells::View;
-use arena::{HEADER, TermPos, TypePos};
+use arena::cells::{View, read};
+use arena::{HEADER, Node, TermPos, TypePos};
 
 // There is no room for a node.
 #[derive(Clone, Copy, Debug, PartialEq, Eq)]
 pub struct Full;
-
-// A node's cells, but for the count of its members.
-#[derive(Clone, Copy)]
-struct Node<'a> {
-    kind: u64,
-    ty: u64,
-    par: u64,
-    members: &'a [u64],
-}
-
-// Whether the node at `at` has these cells. The header is looked at first.
-fn same_node(cells: &[u64], at: usize, node: &Node<'_>) -> bool
-    requires { after cells.now at ≤ length cells.now }
-    ensures { result ≡ same (node_here cells.now at) (node_of node.now) }
-{
-    if cells[at] != node.kind {
-        return false;
-    }
-    if cells[at + 1] != node.ty {
-        return false;
-    }
-    if cells[at + 2] != node.par {
-        return false;
-    }
-    let from = at + HEADER;
-    let end = from + cells[at + 3] as usize;
-    &cells[from..end] == node.members
-}
 
 // Writes a node at the mark.
 fn add(cells: &mut [u64], mark: usize, node: &Node<'_>)
@@ -67,7 +39,7 @@ pub struct Arena<'a> {
 }
 
 impl Arena<'_> {
-    ghost use Rattle.nodes.specs.Builds.{nodes_of, Formed, IsRead, term_reply, type_reply, node_reply, Builds};
+    ghost use Rattle.nodes.specs.Builds.{nodes_of, Formed, IsRead, term_reply, type_reply, node_reply, spot, Builds};
 
     // The nodes, to read.
     pub fn view(&self) -> View<'_>
@@ -132,10 +104,11 @@ impl Arena<'_> {
     {
         let mut at: usize = 0;
         while at < self.mark {
-            if same_node(self.cells, at, node) {
+            let there = read(self.cells, at);
+            if there == *node {
                 return Some(at);
             }
-            at += HEADER + self.cells[at + 3] as usize;
+            at += HEADER + there.members.len();
         }
         None
     }

@@ -9,27 +9,10 @@ ghost use Rattle.arena.specs.Cells.{cells as cells_in, used, node_here, after};
 ghost use Rattle.arena.specs.View.{nodes_of};
 ghost use Rattle.arena.specs.WellFormed.{good_node, absent, formed, Below};
 ghost use Rattle.node_tests.specs.Decide.{First};
-ghost use Rattle.node_kinds.specs.Numbers.{node_of};
 
-use arena::cells::View;
-use node_kinds::{Node, kind_ok, placed_ok};
+use arena::cells::{View, read};
+use node_kinds::{kind_ok, placed_ok};
 use node_tests::looks::Seen;
-
-// The node whose cells begin at p.
-#[tactic(auto, unfolding(arena::specs::Cells::node_here))]
-fn read(cells: &[u64], p: usize) -> Node<'_>
-    requires { after cells.now p ≤ length cells.now }
-    ensures { node_of result ≡ node_here cells.now p }
-{
-    let from = p + 4;
-    let end = from + cells[p + 3] as usize;
-    Node {
-        par: cells[p + 2],
-        ty: cells[p + 1],
-        kind: cells[p],
-        members: &cells[from..end],
-    }
-}
 
 // Whether no node below q has the cells of the good node at q. It would stand above the last member, so the search begins there; behind a count
 // of 0 stands no member, and the count itself is where the first node starts.

@@ -1,10 +1,10 @@
-use Rattle.std.proofs.Common.{length, sym, ap, ap₂, ◌∙◌, arith}
-use Rattle.arena.specs.Nodes.{Node, same}
+use Rattle.std.proofs.Common.{length, sym, ap, ◌∙◌, arith}
+use Rattle.arena.specs.Nodes.{Node}
 use Rattle.arena.specs.Cells.{used, node_here}
 use Rattle.arena.proofs.Formed.{none_absent}
 use Rattle.arena.proofs.Scan.{scan_fits, scan_hit, scan_miss, scan_end, find_absent}
 use Rattle.arena.proofs.Tiling.{here-count}
-use Rattle.node_kinds.proofs.Numbers.{eq_same}
+use Rattle.arena.proofs.Same.{same_by}
 use Rattle.wellformed.proofs.Last.{from_last}
 use Rattle.wellformed.proofs.is_new.Goals as goal
 
@@ -18,7 +18,7 @@ pub returns-then-eq : goal.returns-then-eq
 returns-then-eq c =
     let a = c.args in
     let l = c.loop-p in
-    let e = ap₂ same (sym c.read-other.ensures) (sym c.read-node.ensures) ∙ sym (eq_same c.read-other.result c.read-node.result) ∙ sym c.if-eq.ensures in
+    let e = same_by c.read-other.result c.read-node.result c.read-other.ensures c.read-node.ensures c.if-eq.ensures in
     sym (find_absent (used a.cells.now a.q) (node_here a.cells.now a.q) l.p (scan_hit c.requires.below _ l.p l.invariant.0 c.loop-p-test.true e))
 
 pub loop-p-preserved : goal.loop-p-preserved
@@ -26,7 +26,7 @@ loop-p-preserved c =
     let l = c.loop-p in
     let f = scan_fits c.requires.below _ l.p l.invariant.0 c.loop-p-test.true in
     let long = ap (λ (n : Node). length n.mem) c.read-other.ensures ∙ here-count c.args.cells.now l.p (omega (arith, f, c.requires.below.fits)) in
-    let e = ap₂ same (sym c.read-other.ensures) (sym c.read-node.ensures) ∙ sym (eq_same c.read-other.result c.read-node.result) ∙ sym c.if-eq.ensures in
+    let e = same_by c.read-other.result c.read-node.result c.read-other.ensures c.read-node.ensures c.if-eq.ensures in
     rw long (scan_miss c.requires.below _ l.p l.invariant.0 c.loop-p-test.true e, f)
 
 pub returns : goal.returns

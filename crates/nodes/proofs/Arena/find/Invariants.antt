@@ -1,5 +1,5 @@
 use Prim.Native.Nat.{◌≤◌, ◌-◌}
-use Rattle.nodes.specs.Node.{node_of}
+use Rattle.arena.specs.Node.{node_of}
 use Rattle.arena.proofs.Scan.{Scan}
 use Rattle.nodes.proofs.Arena.find.Given as goal
 

@@ -1,11 +1,11 @@
--- `==` of two nodes' numbers is the definitions' test.
-use Rattle.std.proofs.Common.{◌≡◌, Bool, true, false, ◌&&◌, [], ◌∷◌, eqb, refl, ap, ◌∙◌}
+-- `==` of two nodes is the definitions' test.
+use Rattle.std.proofs.Common.{◌≡◌, Bool, true, false, ◌&&◌, [], ◌∷◌, eqb, refl, sym, ap, ap₂, ◌∙◌}
 use Rattle.std.specs.Cmp.Lexicographic.{pointwise}
 use Rattle.arena.specs.Lists.{every}
-use Rattle.arena.specs.Nodes.{same}
+use Rattle.arena.specs.Nodes.{same, Node as ListNode}
 use Rattle.arena.proofs.Loops.{same_list_is}
-use Rattle.node_kinds.specs.declared.Node.{Node}
-use Rattle.node_kinds.specs.Numbers.{node_of}
+use Rattle.arena.specs.declared.Node.{Node}
+use Rattle.arena.specs.Node.{node_of}
 
 turned : (p t k m : Bool) → (p && (t && (k && m))) ≡ every (k ∷ t ∷ p ∷ m ∷ [])
 unfolding every
@@ -24,3 +24,8 @@ unfolding same
 eq_same m n =
     turned (eqb m.par n.par) (eqb m.ty n.ty) (eqb m.kind n.kind) (pointwise eqb m.members.now n.members.now)
     ∙ ap (λ (b : Bool). every (eqb m.kind n.kind ∷ eqb m.ty n.ty ∷ eqb m.par n.par ∷ b ∷ [])) (same_list_is m.members.now n.members.now)
+
+-- of nodes that are known by their cells, what it answers
+pub same_by : (m n : Node) {k l : ListNode} {b : Bool} → node_of m ≡ k → node_of n ≡ l
+    → b ≡ (eqb m.par n.par && (eqb m.ty n.ty && (eqb m.kind n.kind && pointwise eqb m.members.now n.members.now))) → same k l ≡ b
+same_by m n e f r = ap₂ same (sym e) (sym f) ∙ sym (eq_same m n) ∙ sym r

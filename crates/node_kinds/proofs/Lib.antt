@@ -1,2 +1,0 @@
--- The law of a node's numbers.
-pub mod Numbers
