@@ -1,5 +1,4 @@
 -- Laws of lines, in the order in which they lean on each other.
 pub mod Turns
 pub mod Answers
-pub mod Said
 pub mod Examples

@@ -4,11 +4,11 @@
 
 ghost use Rattle.std.specs.Prelude.{◌≡◌, ◌+◌, ◌≤◌, length};
 ghost use Rattle.codec.specs.Writing.{Puts};
-ghost use Rattle.table.specs.Answers.{reply_of, mark_after};
+ghost use Rattle.table.specs.Answers.{said, mark_after};
 ghost use Rattle.answers.specs.Lines.{decimal, field, ok_line, refused_line};
 ghost use Rattle.answers.specs.Replies.{line_of};
 
-use table::Answer;
+use table::Accepted;
 
 // The writers go from a place in a lent buffer to the next: `Puts` says what each leaves, and where. A struct that held both would
 // ask each function for one more clause, on the buffer that it stands for.
@@ -67,29 +67,30 @@ pub fn write_refused(out: &mut [u8], at: usize, number: u64) -> usize
     write_bytes(out, a, b"\n")
 }
 
-// The line of an answer.
-pub fn write_answer(out: &mut [u8], end: usize, answer: Answer) -> usize
+// The line of an answer. A refusal is any number here: 10 answers a script, and no call.
+#[tactic(auto, unfolding(crate::specs::Replies::line_of))]
+pub fn write_answer(out: &mut [u8], end: usize, answer: Result<Accepted, u64>) -> usize
     requires { end + 45 ≤ length out.old }
-    ensures { Puts out.old end (line_of (reply_of answer)) result out.new }
+    ensures { Puts out.old end (line_of (said answer)) result out.new }
 {
     match answer {
         Ok(accepted) => write_ok(out, end, accepted.position, accepted.mark as u64),
-        Err(refusal) => write_refused(out, end, refusal.number()),
+        Err(number) => write_refused(out, end, number),
     }
 }
 
 // The line of an answer, in the room that was lent.
 #[tactic(auto, using(codec::proofs::Putting::puts_inside, codec::proofs::Putting::puts_front))]
-pub fn answer_line(room: &mut [u8; 45], answer: Answer) -> &[u8]
-    ensures { result.now ≡ line_of (reply_of answer) }
+pub fn answer_line(room: &mut [u8; 45], answer: Result<Accepted, u64>) -> &[u8]
+    ensures { result.now ≡ line_of (said answer) }
 {
     let end = write_answer(room, 0, answer);
     &room[..end]
 }
 
 // The mark that an answer leaves.
-pub fn next_mark(mark: usize, answer: Answer) -> usize
-    ensures { result ≡ mark_after mark (reply_of answer) }
+pub fn next_mark(mark: usize, answer: Result<Accepted, u64>) -> usize
+    ensures { result ≡ mark_after mark (said answer) }
 {
     match answer {
         Ok(accepted) => accepted.mark,

@@ -1,5 +1,5 @@
 -- What a call on an arena leaves is an arena, at the mark that its answer says. Assumes nothing.
-use mathlib.Core.Path.{◌≡◌, sym, subst}
+use mathlib.Core.Path.{◌≡◌, sym, subst, ◌∙◌}
 use mathlib.Core.List.{List}
 use Prim.Native.Nat.{ℕ, ◌≤◌}
 use native.Mathlib.Omega.{arith}
@@ -8,8 +8,8 @@ use lib.Seq.{length-take-le}
 use Rattle.arena.specs.WellFormed.{IsArena}
 use Rattle.instruction.specs.Instruction.{instr_of}
 use Rattle.instruction.specs.declared.Instruction.{Instruction}
-use Rattle.table.specs.Call.{lent, call_on}
-use Rattle.table.specs.Answers.{Answer, mark_after, reply_of}
+use Rattle.table.specs.Call.{Reply, lent}
+use Rattle.table.specs.Answers.{Answer, Answered, mark_after, reply_of}
 use Rattle.table.specs.Promises.{After}
 use Rattle.table.proofs.Kept.{kept}
 
@@ -17,8 +17,8 @@ use Rattle.table.proofs.Kept.{kept}
 counted : (i : Instruction) → length i.operands ≡ 257 → i.count ≤ 257 → length (instr_of i).operands ≡ i.count
 counted i l h = length-take-le i.count i.operands (omega arith)
 
-module _ {c : List ℕ} {m : ℕ} (i : Instruction) (r : Answer) {c' : List ℕ} {n : ℕ} where
-  pub left-arena : IsArena c m → length i.operands ≡ 257 → (reply_of r ≡ (call_on c m (instr_of i)).reply) × (c' ≡ (call_on c m (instr_of i)).cells) → n ≡ mark_after m (reply_of r) → IsArena c' n
-  left-arena A l e q =
-      let k = subst (After c m) (λ j. lent (sym e.0 j) (sym e.1 j)) (kept c m (instr_of i) (counted i l) A) in
+module _ {c : List ℕ} {m : ℕ} (i : Instruction) (r : Answer) {c' : List ℕ} {y : Reply} {n : ℕ} where
+  pub left-arena : IsArena c m → length i.operands ≡ 257 → Answered c m (instr_of i) r c' → y ≡ reply_of r → n ≡ mark_after m y → IsArena c' n
+  left-arena A l e s q =
+      let k = subst (After c m) (λ j. lent (sym (s ∙ e.0) j) (sym e.1 j)) (kept c m (instr_of i) (counted i l) A) in
       subst (IsArena c') (sym q) k.arena

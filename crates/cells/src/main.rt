@@ -9,7 +9,7 @@ ghost use Rattle.arena.specs.WellFormed.{IsArena};
 use instruction::Instruction;
 use std::io;
 use std::io::Read;
-use table::Answer;
+use table::Accepted;
 
 // Bytes that a script has at most.
 const LONGEST: usize = 65536;
@@ -53,7 +53,7 @@ fn resolved(results: &[u64], instruction: Instruction) -> Instruction
 
 // ---- lines
 
-fn say_answer(rt: &impl Print, answer: Answer) -> io::Result<()> {
+fn say_answer(rt: &impl Print, answer: Result<Accepted, u64>) -> io::Result<()> {
     rt.write_all(answers::answer_line(&mut [0u8; 45], answer))
 }
 
@@ -84,7 +84,7 @@ fn say_cells(rt: &impl Print, cells: &[u64], mark: usize) -> io::Result<()> {
 
 // ---- scripts
 
-fn position(answer: Answer) -> u64 {
+fn position(answer: Result<Accepted, u64>) -> u64 {
     answer.map_or(NOWHERE, |accepted| accepted.position)
 }
 
@@ -108,13 +108,14 @@ fn step(
     ensures err { OnErr result ((mark : ℕ) × IsArena cells.new mark) }
 {
     let Some(read) = codec::read_instruction(bytes, place.at) else {
-        rt.write_all(b"refused 10\n")?;
+        say_answer(rt, Err(10))?;
         return Ok(Place {
             at: bytes.len(),
             mark: place.mark,
         });
     };
-    let answer = call::call_known(cells, place.mark, resolved(results, read.instruction));
+    let instruction = resolved(results, read.instruction);
+    let answer = table::numbered(call::call_known(cells, place.mark, instruction));
     say_answer(rt, answer)?;
     put(results, line, position(answer));
     Ok(Place {

@@ -5,7 +5,7 @@
 
 use codec::Number;
 use std::io;
-use table::Answer;
+use table::Accepted;
 
 // Bytes that are read at most.
 const LONGEST: usize = 4096;
@@ -22,7 +22,7 @@ struct Place {
 
 // ---- lines
 
-fn say_answer(rt: &impl Print, answer: Answer) -> io::Result<()> {
+fn say_answer(rt: &impl Print, answer: Result<Accepted, u64>) -> io::Result<()> {
     rt.write_all(answers::answer_line(&mut [0u8; 45], answer))
 }
 
@@ -67,13 +67,13 @@ fn number(bytes: &[u8], at: usize) -> Number {
 // One instruction. Where none can be read, no byte is left.
 fn step(rt: &impl Print, bytes: &[u8], cells: &mut [u64], place: Place) -> io::Result<Place> {
     let Some(read) = codec::read_instruction(bytes, place.at) else {
-        rt.write_all(b"refused 10\n")?;
+        say_answer(rt, Err(10))?;
         return Ok(Place {
             at: bytes.len(),
             mark: place.mark,
         });
     };
-    let answer = call::call(cells, place.mark, read.instruction);
+    let answer = table::numbered(call::call(cells, place.mark, read.instruction));
     say_answer(rt, answer)?;
     Ok(Place {
         at: read.next,

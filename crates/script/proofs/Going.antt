@@ -32,13 +32,13 @@ module _ {bytes c out : List ℕ} {p r : Place} {c' out' : List ℕ} where
   stepped_bad e f m a w =
       record { written = rw e w; moved = rw e (λ j. state (f j) (m j) (a j)) }
 
-  pub stepped_whole : {i : Instr} {behind : ℕ} (a : Answer) → instruction_at bytes p.at ≡ whole i behind → Answered c p.mark i a c' → r.mark ≡ mark_after p.mark (reply_of a) → r.at ≡ behind
-      → Puts out p.end (line_of (reply_of a)) r.end out' → Stepped bytes c out p r c' out'
+  pub stepped_whole : {i : Instr} {behind : ℕ} {y : Reply} (a : Answer) → instruction_at bytes p.at ≡ whole i behind → Answered c p.mark i a c' → y ≡ reply_of a
+      → r.mark ≡ mark_after p.mark y → r.at ≡ behind → Puts out p.end (line_of y) r.end out' → Stepped bytes c out p r c' out'
   unfolding step_on
-  stepped_whole a e t m b w =
+  stepped_whole a e t n m b w =
       record {
-        written = rw e (subst (λ (l : Reply). Puts out p.end (line_of l) r.end out') t.0 w);
-        moved = rw e (λ j. state (t.1 j) ((m ∙ ap (mark_after p.mark) t.0) j) (b j));
+        written = rw e (subst (λ (l : Reply). Puts out p.end (line_of l) r.end out') (n ∙ t.0) w);
+        moved = rw e (λ j. state (t.1 j) ((m ∙ ap (mark_after p.mark) (n ∙ t.0)) j) (b j));
       }
 
   pub stepped_on : Stepped bytes c out p r c' out' → p.at < length bytes → p.at < r.at

@@ -33,7 +33,7 @@ fn step(bytes: &[u8], cells: &mut [u64], out: &mut [u8], place: Place) -> Place
             end: answers::write_refused(out, place.end, 10),
         };
     };
-    let answer = call::call_known(cells, place.mark, read.instruction);
+    let answer = table::numbered(call::call_known(cells, place.mark, read.instruction));
     Place {
         at: read.next,
         mark: answers::next_mark(place.mark, answer),

@@ -18,6 +18,11 @@ abbrev pub reply_of : Answer → Reply
 reply_of (Ok a) = ok a.position a.mark
 reply_of (Err e) = refused (number_of e)
 
+-- the same of a line, which may say any number: 10 answers a script, and no call
+abbrev pub said : Result Accepted ℕ → Reply
+said (Ok a) = ok a.position a.mark
+said (Err n) = refused n
+
 -- on the cells c and the mark m
 abbrev pub Answered : List ℕ → ℕ → Instr → Answer → List ℕ → Type 0
 Answered c m i r c' = (reply_of r ≡ (call_on c m i).reply) × (c' ≡ (call_on c m i).cells)

@@ -4,6 +4,7 @@
 #![tactic(auto)]
 
 ghost use Rattle.std.specs.Prelude.{◌≡◌, Some};
+ghost use Rattle.table.specs.Answers.{reply_of, said};
 ghost use Rattle.table.specs.Refusals.{number_of, words_of};
 
 use std::error::Error;
@@ -64,6 +65,13 @@ pub struct Accepted {
 
 // What a call answers. A refusal leaves every cell and the mark as they were.
 pub type Answer = Result<Accepted, Refusal>;
+
+// An answer as a line says it: a refusal by its number.
+pub fn numbered(answer: Answer) -> Result<Accepted, u64>
+    ensures { said result ≡ reply_of answer }
+{
+    answer.map_err(Refusal::number)
+}
 
 // The operands of an operation: a type where `true` stands, and then so many terms; pairs of an attribute and a type or a term; the
 // first again, with a run of terms behind it.

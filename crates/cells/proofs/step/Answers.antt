@@ -7,12 +7,12 @@ on_err : {T E P : Type 0} (r : Result T E) → P → OnErr r P
 on_err (Ok x) p = tt
 on_err (Err e) p = p
 
-pub returns-in_err-say_answer-clause-err : goal.returns-in_err-say_answer-clause-err
-returns-in_err-say_answer-clause-err g c =
-    let named = c.resolved in let made = c.call_known-answer in
-    on_err {P = (x : ℕ) × IsArena made.new.cells x} _ (_, left-arena named.result made.result c.requires named.ensures made.ensures refl)
+pub returns-in_err-say_answer-2-clause-err : goal.returns-in_err-say_answer-2-clause-err
+returns-in_err-say_answer-2-clause-err g c =
+    let named = c.resolved-instruction in let made = c.call_known in
+    on_err {P = (x : ℕ) × IsArena made.new.cells x} _ (_, left-arena named.result made.result c.requires named.ensures made.ensures refl refl)
 
 pub returns-clause-ok : goal.returns-clause-ok
 returns-clause-ok g c =
-    let named = c.resolved in let made = c.call_known-answer in
-    left-arena named.result made.result c.requires named.ensures made.ensures c.next_mark.ensures
+    let named = c.resolved-instruction in let made = c.call_known in
+    left-arena named.result made.result c.requires named.ensures made.ensures c.numbered-answer.ensures c.next_mark.ensures
