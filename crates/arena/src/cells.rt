@@ -140,7 +140,7 @@ impl<'a> View<'a> {
         &self.cells[from..end]
     }
 
-    // Member i of the node that starts at p, 0 past its members.
+    // Member i of the node that starts at p, 0 past its members, as `arg_at` has it.
     pub fn arg_of(&self, p: u64, i: usize) -> u64
         requires { 1 ≤ kind_at (nodes_of self.now) p }
         ensures { result ≡ arg_at (nodes_of self.now) p i }

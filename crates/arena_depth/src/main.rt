@@ -70,7 +70,7 @@ fn base(cells: &mut [u64], kind: u64, par: u64, count: u64) {
     put(cells, 0, &nodes);
 }
 
-// y or n: is the term at `at` a literal, does the type there contain a set. Else a mark of what is wrong.
+// A letter, as it is printed. y or n: is the term at `at` a literal, does the type there contain a set. Else a mark of what is wrong.
 fn answer(cells: &[u64], mark: usize, at: usize) -> u8 {
     if !is_formed(cells, mark as u64) {
         return b'!';

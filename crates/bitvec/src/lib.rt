@@ -1,5 +1,5 @@
 // Bitvectors of 1 to 64 bits, each a u64 below 2 to the width: bitvec.rs, in its order. SMT-LIB decides every result (the crate smtlib). What speaks of
-// whole numbers, to_int and overflows, stands in bitvec_closures.
+// whole numbers, to_int and overflows, stands in bitvec_closures. An operand is no type of its own: `add`, `mul`, `not`, `shl` and `of_nat` take any word.
 
 #![tactic(auto)]
 

@@ -38,7 +38,7 @@ fn built(cells: &mut [u64], mark: usize, op: u64, par: u64, xs: &[u64]) -> Answe
     }
 }
 
-// The numbers of an instruction, on an arena known to be well formed: xs has as many operands as the count says, or the count is above 257.
+// Cells and mark come apart, as C and scripts hold them. The numbers of an instruction, on an arena known to be well formed: xs has as many operands as the count says, or the count is above 257.
 pub fn call_listed(
     cells: &mut [u64],
     mark: usize,

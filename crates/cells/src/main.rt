@@ -20,7 +20,7 @@ const LINES: usize = 4096;
 // The position of a line that gave none: a number, since the call is asked with it as with any other.
 const NOWHERE: u64 = u64::MAX;
 
-// Where a script stands: the next byte, and the mark.
+// Where a script stands: the next byte, and the mark. Each program has its own, with what it needs.
 #[derive(Clone, Copy)]
 struct Place {
     at: usize,

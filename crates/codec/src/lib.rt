@@ -10,7 +10,7 @@ ghost use Rattle.codec.specs.Writing.{Puts, written_of, with_number};
 
 use instruction::Instruction;
 
-// A number that was read, and the place behind it.
+// A number that was read, and the place behind it. What was read has a name of its own, here and in `Decoded` and `Operands`.
 #[derive(Clone, Copy)]
 pub struct Number {
     pub value: u64,

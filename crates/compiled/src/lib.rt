@@ -83,7 +83,7 @@ fn get_fields(arena: &mut Arena<'_>, list: &[u64], inner: &mut [u64]) -> Result<
     Ok(())
 }
 
-// What the listed fields hold, at the front of `held`; how many.
+// What the listed fields hold, at the front of `held`; how many: memory is fixed.
 fn listed_options(list: &[u64], held: &mut [u64]) -> usize
     requires { length list.now ≤ 2 * length held.old }
     ensures { Holds (odds list.now) held.old result held.new }
@@ -169,7 +169,7 @@ pub fn compile_has_attr(arena: &mut Arena<'_>, k: u64, t: TermPos) -> Result<Ter
     some_of(arena, TRUE)
 }
 
-// Put in some unless it is an option.
+// Put in some unless it is an option, as the definition `optioned` is told.
 fn optioned(arena: &mut Arena<'_>, option: bool, p: TermPos) -> Result<TermPos, Full>
     requires { Ready (λ a. is_term a p.0 ≡ true) arena.old }
     ensures { Builds (λ a. optionedBy option a p.0) arena.old (term_reply result) arena.new }

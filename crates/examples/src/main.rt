@@ -13,7 +13,7 @@ const LONGEST: usize = 4096;
 // Examples that are read at most.
 const ROWS: u64 = 4096;
 
-// Where an example stands: the next byte, and the mark.
+// Where an example stands: the next byte, and the mark. Each program has its own, with what it needs.
 #[derive(Clone, Copy)]
 struct Place {
     at: usize,

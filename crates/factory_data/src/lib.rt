@@ -86,7 +86,7 @@ pub fn set_subset(arena: &mut Arena<'_>, s: TermPos, t: TermPos) -> Result<TermP
     app2(arena, 51, BOOL, s, t)
 }
 
-// The literal set of the members that both have.
+// The literal set of the members that both have. Memory is fixed: their run stands at the front of an array.
 fn inter_of(arena: &mut Arena<'_>, s: TermPos, t: TermPos) -> Result<TermPos, Full>
     requires { Ready (λ a. kind_at a s.0 ≡ 20 × is_term a t.0 ≡ true) arena.old }
     ensures { Builds (λ a. inter_of a s.0 t.0) arena.old (term_reply result) arena.new }
@@ -161,7 +161,7 @@ pub fn option_get(arena: &mut Arena<'_>, t: TermPos) -> Result<TermPos, Full>
     app1(arena, 55, ty, t)
 }
 
-// The attribute k, which the record's type has.
+// The attribute k, which the record's type has: without it `field_d` is 0, as in the code.
 pub fn record_get(arena: &mut Arena<'_>, k: u64, t: TermPos) -> Result<TermPos, Full>
     requires { Ready (λ a. is_term a t.0 ≡ true) arena.old }
     ensures { Builds (λ a. record_get a k t.0) arena.old (term_reply result) arena.new }

@@ -125,7 +125,7 @@ pub fn set_of(arena: &mut Arena<'_>, ty: TypePos, terms: &[u64]) -> Result<TermP
     arena.typed_node(4, 0, &[ty.0], 20, 0, &run[..n])
 }
 
-// Attribute and term of each field in turn; of equal attributes the last wins.
+// Attribute and term of each field in turn; of equal attributes the last wins. Their runs stand as in `set_of`.
 pub fn record_of(arena: &mut Arena<'_>, list: &[u64]) -> Result<TermPos, Full>
     requires ready { Ready (λ a. all (is_term a) (odds list.now) ≡ true × all small (evens list.now) ≡ true) arena.old }
     requires list_len_bound { length list.now ≤ 128 }

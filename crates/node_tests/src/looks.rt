@@ -23,7 +23,7 @@ pub struct Seen<'a, 's> {
 }
 
 impl<'a> Seen<'a, '_> {
-    // Cell j of the header of the node at p; 0 where none starts.
+    // Cell j of the header of the node at p; 0 where none starts, since the definitions' node there is all zeros.
     pub fn look(&self, p: u64, j: usize) -> u64
         requires { j ≤ 3 }
         ensures { result ≡ get_or (cells_of (node_at (nodes_of self.now.nodes) p)) j 0 }

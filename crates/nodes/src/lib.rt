@@ -52,7 +52,7 @@ impl Arena<'_> {
         }
     }
 
-    // The kind of the node that starts at p.
+    // What a `View` reads, in one word, since each step of the factory reads. The kind of the node that starts at p.
     pub fn kind_of(&self, p: u64) -> u64
         requires below { IsRead self.now }
         requires bound { 1 ≤ kind_at (nodes_of self.now) p }
@@ -152,7 +152,7 @@ impl Arena<'_> {
         Ok(TermPos(p))
     }
 
-    // The type of this kind, parameter and members.
+    // The type of this kind, parameter and members: it answers another kind of position.
     pub fn type_node(&mut self, kind: u64, par: u64, members: &[u64]) -> Result<TypePos, Full>
         requires { Formed self.old }
         ensures { Builds (λ a. put a (node kind 0 par members.now)) self.old (type_reply result) self.new }

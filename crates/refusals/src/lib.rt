@@ -142,7 +142,7 @@ fn all_terms(nodes: &View<'_>, xs: &[u64]) -> bool
     true
 }
 
-// Whether nodes of the sort start at all that the pairs hold.
+// Whether nodes of the sort start at all that the pairs hold: `all_terms` over pairs, where a place is no step of a count.
 #[tactic(auto, using(arena::proofs::Starts::first_kind))]
 fn all_held(nodes: &View<'_>, typed: bool, pairs: &[u64]) -> bool
     ensures { result ≡ all (sort_ok (nodes_of nodes.now) (sort typed)) (odds pairs.now) }

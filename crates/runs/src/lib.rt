@@ -8,7 +8,7 @@ ghost use Rattle.arena.specs.WellFormed.{small, field_run};
 ghost use Rattle.runs.specs.Fields.{given};
 ghost use Rattle.runs.specs.Strides.{heads};
 
-// Member i, or 0 past the end.
+// Member i, or 0 past the end, as `get_or` has it.
 pub fn nth(run: &[u64], i: usize) -> u64
     ensures { result ≡ get_or run.now i 0 }
 {
@@ -23,7 +23,7 @@ pub fn zeros_from(run: &[u64], m: usize) -> bool
     run[m..].iter().all(|x| *x == 0)
 }
 
-// Whether every number, or with step 2 every attribute, is above the one before.
+// Whether every number, or with step 2 every attribute, is above the one before: `heads` of specs/ takes that step.
 pub fn rises(run: &[u64], step: usize) -> bool
     requires { (1 ≤ step) × (step ≤ 2) }
     ensures { result ≡ rising (heads step run.now) }

@@ -74,7 +74,7 @@ pub fn numbered(answer: Answer) -> Result<Accepted, u64>
 }
 
 // The operands of an operation: a type where `true` stands, and then so many terms; pairs of an attribute and a type or a term; the
-// first again, with a run of terms behind it.
+// first again, with a run of terms behind it. `shape_of` says which of the table's shapes each is.
 #[derive(Clone, Copy)]
 pub enum Form {
     Fixed(bool, u8),

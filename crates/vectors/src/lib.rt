@@ -42,6 +42,7 @@ pub struct Replay {
     pub used: usize,
     // How many lines have ended.
     pub line: u64,
+    // which of the two lists is being read
     pub in_solver: bool,
     pub original: Count,
     pub solver: Count,
