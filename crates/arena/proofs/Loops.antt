@@ -1,6 +1,7 @@
 -- One turn of a loop over a run of numbers: what the rest of the run says, at i and after it.
+use borrow.Author.Tests.{eq-eqb, ne_eqb}
 use mathlib.Core.Path.{◌≡◌, refl, ap, ◌∙◌}
-use Prim.Native.Nat.{ℕ, suc, ◌+◌, ◌≤◌, ◌<◌}
+use Prim.Native.Nat.{ℕ, zero, suc, ◌+◌, ◌≤◌, ◌<◌}
 use native.Mathlib.Omega.{arith}
 use mathlib.Core.Bool.{Bool, true, false, ◌&&◌}
 use mathlib.Core.List.{List, [], ◌∷◌}
@@ -62,6 +63,19 @@ module _ (f : ℕ → Bool) (l : List ℕ) (i : ℕ) where
 
 -- ---- two runs
 
+module _ (a b : List ℕ) where
+  pub list_hit : (i : ℕ) → i < length a → i < length b → get_or a i 0 ≡ get_or b i 0 → same_list (drop i a) (drop i b) ≡ same_list (drop (i + 1) a) (drop (i + 1) b)
+  unfolding same_list
+  list_hit i h k e = rw (one a i h, one b i k, eq-eqb _ _ e)
+
+  pub list_miss : (i : ℕ) → i < length a → i < length b → (get_or a i 0 ≡ get_or b i 0 → ⊥) → same_list (drop i a) (drop i b) ≡ false
+  unfolding same_list
+  list_miss i h k e = rw (one a i h, one b i k, ne_eqb _ _ e)
+
+  pub list_end : (i : ℕ) → length a ≤ i → length b ≤ i → same_list (drop i a) (drop i b) ≡ true
+  unfolding same_list
+  list_end i h k = rw (drop_of_length-le a {i = i} h, drop_of_length-le b {i = i} k)
+
 -- what `==` answers at slices
 pub same_list_is : (a b : List ℕ) → pointwise eqb a b ≡ same_list a b
 unfolding same_list
@@ -69,6 +83,17 @@ same_list_is [] [] = refl
 same_list_is [] (y ∷ ys) = refl
 same_list_is (x ∷ xs) [] = refl
 same_list_is (x ∷ xs) (y ∷ ys) = ap (λ t. eqb x y && t) (same_list_is xs ys)
+
+pub list_differ : (a b : List ℕ) (i : ℕ) → i < length a → i < length b → (get_or a i 0 ≡ get_or b i 0 → ⊥) → same_list a b ≡ false
+unfolding same_list
+list_differ [] b i h k e = absurd (omega arith)
+list_differ (x ∷ a) [] i h k e = refl
+list_differ (x ∷ a) (y ∷ b) zero h k e = rw (ne_eqb x y e)
+list_differ (x ∷ a) (y ∷ b) (suc i) h k e = go (eqb x y) (list_differ a b i (omega arith) (omega arith) e)
+  where
+    go : (t : Bool) → same_list a b ≡ false → (t && same_list a b) ≡ false
+    go true z = z
+    go false z = refl
 
 pub list_length : (a b : List ℕ) → (length a ≡ length b → ⊥) → same_list a b ≡ false
 unfolding same_list

@@ -25,7 +25,11 @@ eq_same m n =
     turned (eqb m.par n.par) (eqb m.ty n.ty) (eqb m.kind n.kind) (pointwise eqb m.members.now n.members.now)
     ∙ ap (λ (b : Bool). every (eqb m.kind n.kind ∷ eqb m.ty n.ty ∷ eqb m.par n.par ∷ b ∷ [])) (same_list_is m.members.now n.members.now)
 
--- of nodes that are known by their cells, what it answers
+-- of nodes that are known by their cells, what `same` answers
+pub same_of : (m n : Node) {k l : ListNode} {b : Bool} → node_of m ≡ k → node_of n ≡ l → b ≡ same (node_of m) (node_of n) → same k l ≡ b
+same_of m n e f r = ap₂ same (sym e) (sym f) ∙ sym r
+
+-- of nodes that are known by their cells, what `==` answers
 pub same_by : (m n : Node) {k l : ListNode} {b : Bool} → node_of m ≡ k → node_of n ≡ l
     → b ≡ (eqb m.par n.par && (eqb m.ty n.ty && (eqb m.kind n.kind && pointwise eqb m.members.now n.members.now))) → same k l ≡ b
 same_by m n e f r = ap₂ same (sym e) (sym f) ∙ sym (eq_same m n) ∙ sym r

@@ -41,8 +41,10 @@ fn operand(results: &[u64], x: u64) -> u64 {
 fn resolved(results: &[u64], instruction: Instruction) -> Instruction
     ensures { length result.operands ≡ 257 }
 {
-    let listed = instruction.operands;
-    let operands = listed.map(|x| operand(results, x));
+    let mut operands = instruction.operands;
+    for x in operands.iter_mut() {
+        *x = operand(results, *x);
+    }
     Instruction {
         operation: instruction.operation,
         parameter: instruction.parameter,

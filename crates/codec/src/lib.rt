@@ -133,19 +133,19 @@ pub fn group_count(n: u64) -> usize
     digit_count(n, 128)
 }
 
-// A number's groups, for which there is room.
-fn put_groups(out: &mut [u8], at: usize, n: u64) -> usize
-    requires { at + length (groups n) ≤ length out.old }
-    ensures { Puts out.old at (groups n) result out.new }
+// A number's groups, for which there is room up to `end`.
+fn put_groups(out: &mut [u8], at: usize, end: usize, n: u64)
+    requires groups { end ≡ at + length (groups n) }
+    requires room { end ≤ length out.old }
+    ensures { Puts out.old at (groups n) end out.new }
 {
-    let last = at + group_count(n) - 1;
+    let last = end - 1;
     let mut rest = n;
     for next in at..last {
         out[next] = (128 + rest % 128) as u8;
         rest = rest / 128;
     }
     out[last] = rest as u8;
-    last + 1
 }
 
 // A number's groups at a place, and the place behind them. None: they have no room, and nothing changes.
@@ -157,5 +157,6 @@ pub fn write_number(out: &mut [u8], at: usize, n: u64) -> Option<usize>
     if end > out.len() {
         return None;
     }
-    Some(put_groups(out, at, n))
+    put_groups(out, at, end, n);
+    Some(end)
 }

@@ -46,6 +46,13 @@ field-there fs k h = go (field fs k) refl
     go none e = t≢f (sym h ∙ has_none fs k e)
     go (some u) e = e ∙ ap some (sym (field-field_d fs k u e))
 
+pub field-absent : (fs : List ℕ) (k : ℕ) → has_field fs k ≡ false → field fs k ≡ none
+field-absent fs k h = go (field fs k) refl
+  where
+    go : (f : Option ℕ) → field fs k ≡ f → field fs k ≡ none
+    go none e = e
+    go (some u) e = t≢f (sym (has_some_lem fs k u e) ∙ h)
+
 -- the three answers of has_attr
 module _ (a : Nodes) (k t : ℕ) where
   abbrev by_field : Option ℕ → Out

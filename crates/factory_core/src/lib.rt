@@ -4,11 +4,13 @@
 
 ghost use Rattle.std.specs.Prelude.{◌≡◌, true, ◌||◌, ◌≤◌, eqb};
 ghost use Rattle.arena.specs.Values.{tbool};
+ghost use Rattle.arena.specs.View.{nodes_of as seen_nodes};
 ghost use Rattle.nodes.specs.Builds.{nodes_of, Builds, term_reply};
 ghost use Rattle.factory.specs.Fit.{Typed, Alike, Ready};
 ghost use Rattle.factory.specs.Core.{not_t, opposites as opposed, junction, and_t, or_t, implies as impliesT, eq_simplify, eq_t, ite_simplify, ite_of_somes, ite_t};
 
 use arena::TermPos;
+use arena::cells::View;
 use factory_makers::{BOOL, FALSE, TRUE, app1, app2, both_literal, some_of};
 use nodes::{Arena, Full};
 
@@ -30,15 +32,16 @@ pub fn not(arena: &mut Arena<'_>, t: TermPos) -> Result<TermPos, Full>
     app1(arena, 20, BOOL, t)
 }
 
-pub fn opposites(arena: &Arena<'_>, t: TermPos, u: TermPos) -> bool
-    requires { Ready (λ a. Typed a tbool t.0 × Typed a tbool u.0) arena.now }
-    ensures { result ≡ opposed (nodes_of arena.now) t.0 u.0 }
+pub fn opposites(nodes: &View<'_>, t: TermPos, u: TermPos) -> bool
+    requires left { Typed (seen_nodes nodes.now) tbool t.0 }
+    requires right { Typed (seen_nodes nodes.now) tbool u.0 }
+    ensures { result ≡ opposed (seen_nodes nodes.now) t.0 u.0 }
 {
-    if arena.kind_of(u.0) == 120 {
-        return t.0 == arena.arg_of(u.0, 0);
+    if nodes.kind_of(u.0) == 120 {
+        return t.0 == nodes.arg_of(u.0, 0);
     }
-    if arena.kind_of(t.0) == 120 {
-        return arena.arg_of(t.0, 0) == u.0;
+    if nodes.kind_of(t.0) == 120 {
+        return nodes.arg_of(t.0, 0) == u.0;
     }
     false
 }
@@ -54,7 +57,7 @@ fn decided(arena: &Arena<'_>, t: TermPos, u: TermPos, other: TermPos) -> bool
     if u == other {
         return true;
     }
-    opposites(arena, t, u)
+    opposites(&arena.view(), t, u)
 }
 
 // What `and` and `or` share: `unit` adds nothing, the other literal decides.
@@ -112,7 +115,7 @@ fn eq_simplify(arena: &mut Arena<'_>, t: TermPos, u: TermPos) -> Result<TermPos,
     if t == u {
         return Ok(TRUE);
     }
-    if both_literal(arena, t, u) {
+    if both_literal(&arena.view(), t, u) {
         return Ok(FALSE);
     }
     if t == TRUE {

@@ -38,7 +38,7 @@ fn literal_in(arena: &Arena<'_>, t: TermPos, s: TermPos) -> bool
     ensures { result ≡ (is_set (nodes_of arena.now) s.0 && (is_lit (nodes_of arena.now) t.0 && is_lit (nodes_of arena.now) s.0)) }
 {
     if arena.kind_of(s.0) == 20 {
-        return both_literal(arena, t, s);
+        return both_literal(&arena.view(), t, s);
     }
     false
 }
@@ -157,7 +157,7 @@ pub fn option_get(arena: &mut Arena<'_>, t: TermPos) -> Result<TermPos, Full>
     if arena.kind_of(t.0) == 19 {
         return Ok(TermPos(arena.arg_of(t.0, 0)));
     }
-    let ty = elem_of(arena, t);
+    let ty = elem_of(&arena.view(), t);
     app1(arena, 55, ty, t)
 }
 

@@ -3,11 +3,16 @@ ghost use Rattle.std.specs.Prelude.{◌≡◌, ◌≤◌, length};
 ghost use Rattle.arena.specs.Lists.{all, mem?, common as commonOf};
 ghost use Rattle.arena.specs.Runs.{Holds};
 
-// Whether x is one of the list.
+// Whether x is one of the list. A slice's own `contains` goes by fours and is slower: most of the time of `inter` is spent here.
 pub fn contains(list: &[u64], x: u64) -> bool
     ensures { result ≡ mem? x list.now }
 {
-    list.contains(&x)
+    for y in list {
+        if *y == x {
+            return true;
+        }
+    }
+    false
 }
 
 // Whether all of these are of the list.

@@ -22,7 +22,7 @@ fn eq_none(arena: &mut Arena<'_>, t: TermPos) -> Result<TermPos, Full>
     requires { Ready (λ a. OfKind a 3 t.0) arena.old }
     ensures { Builds (λ a. eq_none a t.0) arena.old (term_reply result) arena.new }
 {
-    let ty = elem_of(arena, t);
+    let ty = elem_of(&arena.view(), t);
     let n = none_of(arena, ty)?;
     eq(arena, t, n)
 }
@@ -121,7 +121,7 @@ fn none_or(arena: &mut Arena<'_>, g: TermPos, t: TermPos) -> Result<TermPos, Ful
     requires { Ready (λ a. Typed a tbool g.0 × OfKind a 3 t.0) arena.old }
     ensures { Builds (λ a. none_or a g.0 t.0) arena.old (term_reply result) arena.new }
 {
-    let ty = elem_of(arena, t);
+    let ty = elem_of(&arena.view(), t);
     let n = none_of(arena, ty)?;
     ite(arena, g, n, t)
 }

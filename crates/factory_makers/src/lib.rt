@@ -7,6 +7,7 @@ ghost use Rattle.std.specs.Prelude.{◌≡◌, true, ◌&&◌, [], ◌∷◌, �
 ghost use Rattle.arena.specs.WellFormed.{small, is_type, is_term};
 ghost use Rattle.arena.specs.Walks.{is_lit, set_free};
 ghost use Rattle.arena.specs.Lists.{all, evens, odds};
+ghost use Rattle.arena.specs.View.{nodes_of as seen_nodes};
 ghost use Rattle.nodes.specs.Builds.{nodes_of, Formed, Builds, term_reply, type_reply};
 ghost use Rattle.factory.specs.Fit.{Ready};
 ghost use Rattle.factory.specs.Makers.{bool_at, bitvec_type, option_type, set_type, record_type, bitvec_lit, variable as variableOf, none_of, some_of, set_of, record_of, app};
@@ -14,6 +15,7 @@ ghost use Rattle.factory.specs.Core.{uninterpreted as uninterpretedOf};
 ghost use Rattle.arena.specs.Nodes.{elem_at, field_types};
 ghost use Rattle.arena.specs.Runs.{Holds};
 
+use arena::cells::View;
 use arena::{TermPos, TypePos};
 use nodes::{Arena, Full};
 use sorting::{fields, sorted};
@@ -33,23 +35,24 @@ pub fn bool_at(b: bool) -> TermPos
 }
 
 // Whether both are literals.
-pub fn both_literal(arena: &Arena<'_>, t: TermPos, u: TermPos) -> bool
-    requires { Ready (λ a. is_term a t.0 ≡ true × is_term a u.0 ≡ true) arena.now }
-    ensures { result ≡ (is_lit (nodes_of arena.now) t.0 && is_lit (nodes_of arena.now) u.0) }
+pub fn both_literal(nodes: &View<'_>, t: TermPos, u: TermPos) -> bool
+    requires left { is_term (seen_nodes nodes.now) t.0 ≡ true }
+    requires right { is_term (seen_nodes nodes.now) u.0 ≡ true }
+    ensures { result ≡ (is_lit (seen_nodes nodes.now) t.0 && is_lit (seen_nodes nodes.now) u.0) }
 {
-    if is_literal(&arena.view(), t.0 as usize) {
-        return is_literal(&arena.view(), u.0 as usize);
+    if is_literal(nodes, t.0 as usize) {
+        return is_literal(nodes, u.0 as usize);
     }
     false
 }
 
 // The element type of an option or a set.
-pub fn elem_of(arena: &Arena<'_>, t: TermPos) -> TypePos
-    requires { Ready (λ a. is_term a t.0 ≡ true) arena.now }
-    ensures { result.0 ≡ elem_at (nodes_of arena.now) t.0 }
+pub fn elem_of(nodes: &View<'_>, t: TermPos) -> TypePos
+    requires { is_term (seen_nodes nodes.now) t.0 ≡ true }
+    ensures { result.0 ≡ elem_at (seen_nodes nodes.now) t.0 }
 {
-    let ty = arena.type_of(t);
-    TypePos(arena.arg_of(ty.0, 0))
+    let ty = nodes.type_of(t);
+    TypePos(nodes.arg_of(ty.0, 0))
 }
 
 // ---------- Types ----------

@@ -29,14 +29,14 @@ module _ (o : Arena) (A : Formed o) (n : Node) where
   place_found {p} e =
       let f = spot-some (find (nodes_of o) n) p e in
       let s = (find_sound (nodes_of o) n p f).0 in let m = mark_is A.below in
-      record { same = refl; did = did_found A n p (sym (ap (found_or o.mark) f)) (omega arith) }
+      record { same = refl; did = did_found A n p (sym (ap (found_or o.mark) f)) (omega arith); stopped = λ e. absurd cc }
 
   module _ (e : spot (find (nodes_of o) n) ≡ None) where
     at : o.mark ≡ found_or o.mark (find (nodes_of o) n)
     at = sym (ap (found_or o.mark) (spot-none (find (nodes_of o) n) e))
 
     pub place_full : length o.cells.now < o.mark + size n → Builds (λ a. put a n) o None o
-    place_full l = record { same = refl; did = did_full A n o.mark at (le_refl o.mark) l }
+    place_full l = record { same = refl; did = did_full A n o.mark at (le_refl o.mark) l; stopped = λ e. (A, le_refl o.mark) }
 
     pub place_added : {c : List ℕ} → o.mark + size n ≤ length o.cells.now → c ≡ take o.mark o.cells.now ++ (cells_of n ++ drop (o.mark + size n) o.cells.now)
         → Done (put (nodes_of o) n) o.cells.now o.mark (built (o.mark + size n) o.mark) c

@@ -1,5 +1,5 @@
 -- What a builder leaves of an arena, and what its answer stands for.
-use Rattle.std.specs.Prelude.{◌≡◌, ℕ, Option, Some, None, Result, Ok, Err}
+use Rattle.std.specs.Prelude.{◌≡◌, ◌≤◌, ℕ, Option, Some, None, Result, Ok, Err}
 use Rattle.std.proofs.Math.Option.{Option as Place, none, some}
 use Rattle.arena.specs.Nodes.{Nodes, Out}
 use Rattle.arena.specs.Cells.{used}
@@ -45,7 +45,9 @@ abbrev pub reply_at : ℕ → Option ℕ → Reply
 reply_at m (Some p) = built m p
 reply_at m None = full
 
--- the contract of every builder: the step F came from the arena o to the arena n, in the same cells
+-- the contract of every builder: the step F came from the arena o to the arena n, in the same cells. Where there was no room n is an arena still,
+-- and its mark is not below the old one.
 pub record Builds (F : Nodes → Out) (o : Arena) (r : Option ℕ) (n : Arena) : Type 0 where
   pub same : n.cells.ghost_name ≡ o.cells.ghost_name
   pub did : Did F o.cells.now o.mark (reply_at n.mark r) n.cells.now
+  pub stopped : r ≡ None → Formed n × (o.mark ≤ n.mark)

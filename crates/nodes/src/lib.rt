@@ -3,6 +3,7 @@
 #![tactic(auto)]
 
 ghost use Rattle.std.specs.Prelude.{◌≡◌, true, ◌++◌, ◌+◌, ◌≤◌, length, take, drop};
+ghost use Rattle.std.proofs.Math.Seq.{paste};
 ghost use Rattle.arena.specs.Nodes.{node, header, find as findNode, put, kind_at, type_at, par_at, mem_at, arg_at};
 ghost use Rattle.arena.specs.Cells.{cells_of};
 ghost use Rattle.arena.specs.Node.{node_of};
@@ -17,6 +18,16 @@ use arena::{HEADER, Node, TermPos, TypePos};
 #[derive(Clone, Copy, Debug, PartialEq, Eq)]
 pub struct Full;
 
+// Writes a run of cells, one by one: `copy_from_slice` would ask C for memmove, and a program that links the library may have none.
+fn copy_in(cells: &mut [u64], from: usize, run: &[u64])
+    requires { from + length run.now ≤ length cells.old }
+    ensures { cells.new ≡ paste cells.old from run.now (length run.now) }
+{
+    for i in 0..run.len() {
+        cells[from + i] = run[i];
+    }
+}
+
 // Writes a node at the mark.
 fn add(cells: &mut [u64], mark: usize, node: &Node<'_>)
     requires { mark + (header + length node.now.members.now) ≤ length cells.old }
@@ -26,8 +37,7 @@ fn add(cells: &mut [u64], mark: usize, node: &Node<'_>)
     cells[mark + 1] = node.ty;
     cells[mark + 2] = node.par;
     cells[mark + 3] = node.members.len() as u64;
-    let from = mark + HEADER;
-    cells[from..from + node.members.len()].copy_from_slice(node.members);
+    copy_in(cells, mark + HEADER, node.members);
 }
 
 // Lent cells in which nodes are built: the next one starts at the mark. That it is well formed is asked and not kept: `term_node` answers for any node,
@@ -105,7 +115,7 @@ impl Arena<'_> {
         let mut at: usize = 0;
         while at < self.mark {
             let there = read(self.cells, at);
-            if there == *node {
+            if there.same(node) {
                 return Some(at);
             }
             at += HEADER + there.members.len();

@@ -11,7 +11,7 @@ use Rattle.arena.proofs.Bools.{every-all}
 use Rattle.table.specs.Call.{sort_ok}
 use Rattle.table.specs.Forms.{sort}
 
-sort_by : (a : Nodes) (t : Bool) (x : ℕ) → sort_ok a (sort t) x ≡ cond t (within 1 15 (kind_at a x)) (leb 16 (kind_at a x))
+pub sort_by : (a : Nodes) (t : Bool) (x : ℕ) → sort_ok a (sort t) x ≡ cond t (within 1 15 (kind_at a x)) (leb 16 (kind_at a x))
 unfolding sort_ok
 sort_by a true x = refl
 sort_by a false x = refl

@@ -70,7 +70,7 @@ module _ (c : List ℕ) (m : ℕ) (i : Instr) where
     whole : lent (refused 9) (padded (length c) (used c m)) ≡ lent (refused 9) c
     whole = ap (lent (refused 9)) (sym (arena-cells A))
 
-    by_refusal : (n : ℕ) → n ≡ refusal (used c m) i → (n ≡ 0 → ⊥) → call_on c m i ≡ lent (refused n) c
+    pub by_refusal : (n : ℕ) → n ≡ refusal (used c m) i → (n ≡ 0 → ⊥) → call_on c m i ≡ lent (refused n) c
     unfolding call
     by_refusal zero e h = absurd (h refl)
     by_refusal (suc k) e h =

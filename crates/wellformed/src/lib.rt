@@ -29,7 +29,7 @@ fn is_new(cells: &[u64], q: usize) -> bool
     // each node says how far the next is: an iterator would have this loop's body as its `next`, and be no plainer
     while p < q {
         let other = read(cells, p);
-        if other == node {
+        if other.same(&node) {
             return false;
         }
         p += 4 + other.members.len();

@@ -1,13 +1,13 @@
 use mathlib.Core.Path.{◌≡◌}
 use native.Mathlib.Omega.{arith}
-use Prim.Native.Nat.{◌+◌, ◌-◌}
+use Prim.Native.Nat.{◌-◌}
 use Rattle.codec.proofs.Groups.{groups_some}
 use Rattle.codec.proofs.Turns.{groups_left, groups-last, group_more, group_end}
 use Rattle.codec.proofs.Putting.{sets_puts}
 use Rattle.codec.proofs.put_groups.Goals as goal
 
 pub overflow_sub-last : goal.overflow_sub-last
-overflow_sub-last c = omega (arith, groups_some c.args.n)
+overflow_sub-last c = omega (arith, c.requires.groups, groups_some c.args.n)
 
 pub loop-next-preserved : goal.loop-next-preserved
 loop-next-preserved c =
@@ -25,5 +25,5 @@ returns c =
     let l = c.loop-next in
     let g = groups_some l.rest in
     let t = group_end l.out _ l.next l.rest _ l.invariant.0 l.invariant.1 (groups-last l.rest (omega arith)) in
-    let last : c.args.at + c.group_count.result - 1 ≡ l.next = omega arith in
-    rw last (sets_puts c.requires t.0 t.1)
+    let last : c.args.end - 1 ≡ l.next = omega (arith, c.requires.groups) in
+    rw last (sets_puts (omega (arith, c.requires.groups, c.requires.room)) c.requires.groups t.1)

@@ -1,4 +1,5 @@
-use mathlib.Core.Path.{sym, ◌∙◌}
+use mathlib.Core.Path.{sym, ap, ◌∙◌}
+use Rattle.arena.specs.Nodes.{Nodes, elem_at}
 use borrow.Author.Tests.{eq-eqb, ne_eqb}
 use Rattle.nodes.proofs.Steps.{builds_here, builds_as}
 use Rattle.factory.specs.SetSteps.{option_get}
@@ -12,4 +13,4 @@ returns-then-kind_of-eq19 c =
 pub returns : goal.returns
 unfolding option_get
 returns c =
-    builds_as c.app1.ensures (rw (ne_eqb _ _ (λ e. c.if-kind_of-eq19.false (c.kind_of.ensures ∙ e)), c.elem_of-ty.ensures))
+    builds_as c.app1.ensures (rw (ne_eqb _ _ (λ e. c.if-kind_of-eq19.false (c.kind_of.ensures ∙ e)), c.elem_of-ty.ensures ∙ ap (λ (a : Nodes). elem_at a c.args.t.0) c.view.ensures))

@@ -10,4 +10,4 @@ pub returns-then-self-at : goal.returns-then-self-at
 returns-then-self-at c = place_full c.args.self.now c.requires _ (sym c.find.ensures ∙ c.in_default.is) (omega arith)
 
 pub returns : goal.returns
-returns c = record { same = refl; did = place_added c.args.self.now c.requires _ (sym c.find.ensures ∙ c.in_default.is) (omega arith) c.add.ensures }
+returns c = record { same = refl; did = place_added c.args.self.now c.requires _ (sym c.find.ensures ∙ c.in_default.is) (omega arith) c.add.ensures; stopped = λ e. absurd cc }
