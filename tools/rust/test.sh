@@ -11,6 +11,12 @@ if [ -z "${TAMESWULK_LIB:-}" ]; then
     # an archive is built anew, so that no older one is tested
     rm -f crates/tameswulk/out/libtameswulk.a
     quietly env -C crates/tameswulk rt lib
+    # what a program that links it has to bring along
+    wanted=$(nm -u crates/tameswulk/out/libtameswulk.a | awk '$1 == "U" && $2 != "memcpy" && $2 != "memset" { print $2 }')
+    [ -z "$wanted" ] || {
+        echo "rust: the archive wants more from outside than memcpy and memset:" $wanted
+        exit 1
+    }
 fi
 cd rust
 quietly cargo test --offline

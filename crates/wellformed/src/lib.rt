@@ -15,7 +15,9 @@ use node_kinds::{kind_ok, placed_ok};
 use node_tests::looks::Seen;
 
 // Whether no node below q has the cells of the good node at q. It would stand above the last member, so the search begins there; behind a count
-// of 0 stands no member, and the count itself is where the first node starts.
+// of 0 stands no member, and the count itself is where the first node starts. The search is most of the test's time, and a call of its own keeps
+// what it compares with in registers.
+#[inline(never)]
 #[tactic(auto, using(arena::proofs::Scan::scan_fits))]
 fn is_new(cells: &[u64], q: usize) -> bool
     requires below { Below cells.now q }
