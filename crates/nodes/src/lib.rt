@@ -18,7 +18,7 @@ use arena::{HEADER, Node, TermPos, TypePos};
 #[derive(Clone, Copy, Debug, PartialEq, Eq)]
 pub struct Full;
 
-// Writes a run of cells, one by one: `copy_from_slice` asks C for memmove here, and a program that links the library may have none.
+// Writes a run of cells, one by one: `copy_from_slice` would ask C for memmove, and a program that links the library may have none.
 fn copy_in(cells: &mut [u64], from: usize, run: &[u64])
     requires { from + length run.now ≤ length cells.old }
     ensures { cells.new ≡ paste cells.old from run.now (length run.now) }
